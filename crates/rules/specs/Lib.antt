@@ -1,0 +1,9 @@
+pub mod Tables
+pub mod Store
+pub mod Steps
+pub mod Images
+pub mod Loads
+pub mod Query
+pub mod Right
+pub mod Voyage
+pub mod Figures
