@@ -15,9 +15,9 @@ indexes = 7
 abbrev pub path : ℕ
 path = byte + indexes + indexes
 
-abbrev pub added : List ℕ → ℕ
-added [] = 0
-added (n ∷ ns) = n + added ns
+abbrev pub sumOf : List ℕ → ℕ
+sumOf [] = 0
+sumOf (n ∷ ns) = n + sumOf ns
 
 -- by kind, from 1 on
 abbrev pub bodyParts : List (List ℕ)
@@ -37,4 +37,4 @@ bodyParts =
 
 -- the length of a kind's body
 abbrev pub bodyLength : ℕ → ℕ
-bodyLength kind = added (getD bodyParts kind [])
+bodyLength kind = sumOf (getD bodyParts kind [])

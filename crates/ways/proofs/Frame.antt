@@ -9,6 +9,7 @@ use native.Mathlib.Omega.{arith}
 use lib.Dec.{T, eqb, eqb-refl}
 use lib.ListN.{length, getD, set, take, drop}
 use lib.Seq.{split-at, set-split}
+use Rattle.ways.proofs.Tests.{or-l, or-r}
 use Rattle.ways.specs.Ways.{sums, walk, total, totals, deep, nothing, visits, flat, one, is, has, Visited}
 
 -- ---- sums
@@ -55,14 +56,6 @@ total-visits children w (suc d) u =
     ap (λ (n : ℕ). w u + n)
     (sums-cong (λ c. sums w (visits children d c)) (total children w d) (total-visits children w d) (children u) ∙ sym (sums-flat w (visits children d) (children u)))
 
-or-right : (a b : Bool) → T b → T (a || b)
-or-right true b t = tt
-or-right false b t = t
-
-or-left : (a b : Bool) → T a → T (a || b)
-or-left true b t = tt
-or-left false b t = absurd t
-
 one-not : (a : Bool) → T a → one (not a) ≡ 0
 one-not true t = refl
 one-not false t = absurd t
@@ -75,7 +68,7 @@ of-one-not false e = omega arith
 pub outside : (m l : List ℕ) → ((v : ℕ) → T (has v l) → T (has v m)) → sums (λ v. one (not (has v m))) l ≡ 0
 outside m [] h = refl
 outside m (x ∷ xs) h =
-    omega (arith, one-not (has x m) (h x (or-left (eqb x x) (has x xs) (eqb-refl x))), outside m xs (λ v t. h v (or-right (eqb x v) (has v xs) t)))
+    omega (arith, one-not (has x m) (h x (or-l (eqb x x) (has x xs) (eqb-refl x))), outside m xs (λ v t. h v (or-r (eqb x v) (has v xs) t)))
 
 pub frame-visited : (b : ℕ) (children children' : ℕ → List ℕ) (w w' : ℕ → ℕ) (d u : ℕ)
     → ((v : ℕ) → Visited children d u v → (children' v ≡ children v) × (w' v ≡ w v))

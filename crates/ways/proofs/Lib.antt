@@ -1,2 +1,5 @@
+pub mod Tests
 pub mod Frame
+pub mod Members
 pub mod Copy
+pub mod Levels

@@ -12,6 +12,19 @@ abbrev pub sums : (ℕ → ℕ) → List ℕ → ℕ
 sums f [] = 0
 sums f (c ∷ cs) = f c + sums f cs
 
+abbrev pub one : Bool → ℕ
+one true = 1
+one false = 0
+
+-- the weight 'is x'
+abbrev pub is : ℕ → ℕ → ℕ
+is x v = one (eqb v x)
+
+-- x stands in the list
+abbrev pub has : ℕ → List ℕ → Bool
+has x [] = false
+has x (y ∷ ys) = eqb y x || has x ys
+
 -- a node, then its list of children, which visits nodes again. b is what stands at the end of the fuel: 0 for a count,
 -- 1 (with weight 0) to count the ways of exactly d + 1 nodes
 unfoldable pub walk : ℕ → (ℕ → List ℕ) → (ℕ → ℕ) → ℕ → ℕ → ℕ
@@ -31,14 +44,6 @@ nothing v = 0
 -- the number of ways of exactly d + 1 nodes down from u: 0 just when no way has more than d nodes
 abbrev pub deep : (ℕ → List ℕ) → ℕ → ℕ → ℕ
 deep children d u = walk 1 children nothing d u
-
-abbrev pub one : Bool → ℕ
-one true = 1
-one false = 0
-
--- the weight 'is x'
-abbrev pub is : ℕ → ℕ → ℕ
-is x v = one (eqb v x)
 
 -- every unit visited from u within d, once for each way to it
 abbrev pub flat : (ℕ → List ℕ) → List ℕ → List ℕ
@@ -67,11 +72,6 @@ up (i ∷ p) d = suc (up p d)
 abbrev pub top : List ℕ → ℕ → ℕ
 top [] t = t
 top (f ∷ fs) t = f
-
--- x stands in the list
-abbrev pub has : ℕ → List ℕ → Bool
-has x [] = false
-has x (y ∷ ys) = eqb y x || has x ys
 
 -- x is visited from u within d
 abbrev pub Visited : (ℕ → List ℕ) → ℕ → ℕ → ℕ → Type 0

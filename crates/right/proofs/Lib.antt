@@ -1,0 +1,15 @@
+pub mod Tables
+pub mod Lists
+pub mod Ledger
+pub mod Ledgers
+pub mod Prune
+pub mod Held
+pub mod Extended
+pub mod Quiet
+pub mod Tree
+pub mod Steps
+pub mod Counts
+pub mod Freed
+pub mod Theorems
+pub mod Deaths
+pub mod Demands
