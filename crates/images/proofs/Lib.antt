@@ -1,0 +1,6 @@
+pub mod Listing
+pub mod Record
+pub mod Loaded
+pub mod Stored
+pub mod Size
+pub mod Theorems

@@ -1,0 +1,1 @@
+// Writing and loading undo each other: laws in proofs/. It has no code.
