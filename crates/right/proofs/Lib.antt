@@ -11,5 +11,6 @@ pub mod Steps
 pub mod Counts
 pub mod Freed
 pub mod Theorems
+pub mod After
 pub mod Deaths
 pub mod Demands

@@ -1,9 +1,9 @@
 -- Tests as facts: what a Bool that is true or false says. Assumes nothing.
-use mathlib.Core.Path.{_≡_, refl, sym}
+use mathlib.Core.Path.{_≡_, refl, sym, subst}
 use mathlib.Core.Bool.{Bool, true, false, _||_, _&&_, not, true≢false}
 use mathlib.Core.Logic.{_⊎_, inl, inr}
 use Prim.Native.Nat.{ℕ}
-use lib.Dec.{T, eqb, eqb→eq}
+use lib.Dec.{T, eqb, eqb-refl, eqb→eq}
 
 pub T→eq : (b : Bool) → T b → b ≡ true
 T→eq true t = refl
@@ -62,3 +62,11 @@ iff-eq true true f g = refl
 iff-eq true false f g = absurd (f tt)
 iff-eq false true f g = absurd (g tt)
 iff-eq false false f g = refl
+
+-- two numbers are equal or not
+pub same-or : (x y : ℕ) → (x ≡ y) ⊎ (x ≡ y → ⊥)
+same-or x y = go (eqb x y) refl
+  where
+    go : (b : Bool) → eqb x y ≡ b → (x ≡ y) ⊎ (x ≡ y → ⊥)
+    go true e = inl (eqb→eq x y (eq→T (eqb x y) e))
+    go false e = inr (λ p. eq→not (eqb x y) e (subst (λ (k : ℕ). T (eqb x k)) p (eqb-refl x)))

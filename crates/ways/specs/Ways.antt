@@ -2,9 +2,9 @@
 -- No limit is baked in: any graph `kids`, any weight `w`, any fuel. Assumes nothing.
 use mathlib.Core.Path.{_≡_}
 use Prim.Native.Nat.{ℕ, zero, suc, _+_, _<_}
-use mathlib.Core.Bool.{Bool, true, false, _||_}
+use mathlib.Core.Bool.{Bool, true, false, _||_, _&&_}
 use mathlib.Core.List.{List, [], _∷_, _++_}
-use lib.Dec.{eqb, T}
+use lib.Dec.{eqb, leb, T}
 use lib.ListN.{length, getD, set}
 
 -- f summed over a list
@@ -24,6 +24,10 @@ is x v = one (eqb v x)
 abbrev pub has : ℕ → List ℕ → Bool
 has x [] = false
 has x (y ∷ ys) = eqb y x || has x ys
+
+-- all the ways that lead to v, n of them, are among those that go
+abbrev pub gone : ℕ → List ℕ → ℕ → Bool
+gone n us v = has v us && leb n (sums (is v) us)
 
 -- a node, then its list of children, which visits nodes again. b is what stands at the end of the fuel: 0 for a count,
 -- 1 (with weight 0) to count the ways of exactly d + 1 nodes
