@@ -20,7 +20,7 @@ use Rattle.rules.specs.Steps.{Outcome, accepted, Change, extended, fit, decide,
 use Rattle.rules.specs.Right.{Sound, Right}
 use Rattle.right.specs.Ledger.{Holds, Ledger, owns}
 use Rattle.right.specs.Counts.{added, Counted}
-use Rattle.ways.proofs.Tests.{T→eq, eq→T, F→eq, eq→not, and-i, or-l, or-r, same?, same-or}
+use Rattle.ways.proofs.Tests.{T→eq, eq→T, F→eq, eq→not, and-i, or-e, or-l, or-r, same?, same-or}
 use Rattle.ways.proofs.Members.{has-pos, pos-has, sums-none}
 use Rattle.right.proofs.Tables.{all-in, distinct-once, keep-in, puts-other, puts-holds}
 use Rattle.right.proofs.Ledger.{has-unit, fresh-unit, Fresh, node-owned}
@@ -171,18 +171,18 @@ module _ (s : Store) (r : Right s) (p : Change) (s' : Store) (e : decide s p ≡
   unfolding prune extended
   after-inputs = ap (λ (y : Store). y .inputs) (passed s r p s' e .1)
 
-  -- where no count of a branch falls and the inputs stay, all branches stay
-  pub kept-branches : p .inputs ≡ s .inputs → ((b : ℕ) → places s b ≤ places s' b) → ((b : ℕ) → T (has b (keys (p .joins))) → 0 < places s' b)
+  -- where no count of a branch falls and no input ends, all branches stay
+  pub kept-branches : ((b : ℕ) → T (inUse (s .inputs) b) → T (inUse (p .inputs) b)) → ((b : ℕ) → places s b ≤ places s' b) → ((b : ℕ) → T (has b (keys (p .joins))) → 0 < places s' b)
       → s' .branches ≡ puts (s .branches) (p .joins)
   kept-branches ei up new = fun-ext (λ b. after-branches b ∙ go b (puts (s .branches) (p .joins) b) refl (has b (keys (p .joins))) refl)
     where
-      stays : (b : ℕ) → alive s b ≡ true → (ltb 0 (places s' b) || inUse (p .inputs) b) ≡ true
-      stays b q = ap (λ (l : List (List ℕ)). ltb 0 (places s' b) || inUse l b) ei ∙ or-up (ltb 0 (places s b)) (ltb 0 (places s' b)) (inUse (s .inputs) b) (λ z. lt-ltb 0 (places s' b) (omega (arith, up b, ltb-true 0 (places s b) z))) q
-        where
-          or-up : (x y i : Bool) → (x ≡ true → y ≡ true) → (x || i) ≡ true → (y || i) ≡ true
-          or-up true y i h z = ap (λ (t : Bool). t || i) (h refl)
-          or-up false true i h z = refl
-          or-up false false i h z = z
+      stays : (b : ℕ) → T (alive s b) → (ltb 0 (places s' b) || inUse (p .inputs) b) ≡ true
+      stays b q =
+          T→eq (ltb 0 (places s' b) || inUse (p .inputs) b)
+          (⊎-elim
+          (λ (z : T (ltb 0 (places s b))). or-l (ltb 0 (places s' b)) (inUse (p .inputs) b) (eq→T (ltb 0 (places s' b)) (lt-ltb 0 (places s' b) (omega (arith, up b, ltb-true 0 (places s b) (T→eq (ltb 0 (places s b)) z))))))
+          (λ (z : T (inUse (s .inputs) b)). or-r (ltb 0 (places s' b)) (inUse (p .inputs) b) (ei b z))
+          (or-e (ltb 0 (places s b)) (inUse (s .inputs) b) q))
 
       nothing : (c : Bool) → _≡_ {A = Option (List ℕ)} (cond c none none) none
       nothing true = refl
@@ -196,7 +196,7 @@ module _ (s : Store) (r : Right s) (p : Change) (s' : Store) (e : decide s p ≡
       go b (some us) q false z =
           let old : s .branches b ≡ some us = sym (puts-other (p .joins) (s .branches) b z) ∙ q in
           ap (λ (c : Bool). cond c (puts (s .branches) (p .joins) b) none)
-          (stays b (T→eq (alive s b) (r .live-branch b (subst (λ (o : Option (List ℕ)). T (isSome o)) (sym old) tt))))
+          (stays b (r .live-branch b (subst (λ (o : Option (List ℕ)). T (isSome o)) (sym old) tt)))
 
 -- where the branches and slots hold together what they held, a unit is held as the nodes say
 pub moved-held : (s s' : Store) (v : ℕ) → 1 ≤ v → v ≤ 255

@@ -12,5 +12,6 @@ pub mod Counts
 pub mod Freed
 pub mod Theorems
 pub mod After
+pub mod Still
 pub mod Deaths
 pub mod Demands
