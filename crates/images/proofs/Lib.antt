@@ -4,3 +4,5 @@ pub mod Loaded
 pub mod Stored
 pub mod Size
 pub mod Theorems
+pub mod Passes
+pub mod Laying
