@@ -15,7 +15,7 @@ use Rattle.rules.specs.Tables.{slice}
 use Rattle.counting.specs.Change.{each}
 use Rattle.counting.specs.Places.{upTo}
 
-run-start : (bs : List ℕ) (from to : ℕ) → length bs ≡ room → slice from (upTo to - from) bs ≡ slice from (to - from) bs
+pub run-start : (bs : List ℕ) (from to : ℕ) → length bs ≡ room → slice from (upTo to - from) bs ≡ slice from (to - from) bs
 unfolding upTo
 run-start bs from to e = go (ltb to room) refl
   where
@@ -25,13 +25,13 @@ run-start bs from to e = go (ltb to room) refl
         take-all (room - from) (drop from bs) (omega (arith, length-drop from bs))
         ∙ sym (take-all (to - from) (drop from bs) (omega (arith, length-drop from bs, ltb-false to room q)))
 
-run-turn : (bs : List ℕ) (i end : ℕ) → i < end → end ≤ length bs → slice i (end - i) bs ≡ getD bs i 0 ∷ slice (i + 1) (end - (i + 1)) bs
+pub run-turn : (bs : List ℕ) (i end : ℕ) → i < end → end ≤ length bs → slice i (end - i) bs ≡ getD bs i 0 ∷ slice (i + 1) (end - (i + 1)) bs
 run-turn bs i end p q =
     let e : end - i ≡ suc (end - (i + 1)) = omega arith in
     let h : i < length bs = omega arith in
     rw (e, drop-cons bs i 0 h, add-one) refl
 
-run-end : (bs : List ℕ) (i end : ℕ) → end ≤ i → slice i (end - i) bs ≡ []
+pub run-end : (bs : List ℕ) (i end : ℕ) → end ≤ i → slice i (end - i) bs ≡ []
 run-end bs i end p =
     let e : end - i ≡ 0 = omega arith in
     rw e refl

@@ -289,7 +289,7 @@ module _ (s : Store) (r : Right s) (m : Step) (ev : Even m) (s' : Store) (e : de
       go (some n) q = absurd (key-fresh x t .not-held (node-owned s (r .sound) x (subst (λ (o : Option Node). T (isSome o)) (sym q) tt)))
 
   -- nothing that comes is among what goes
-  undropped : (x : ℕ) → T (has x (keys (change s m .adds))) → times x (change s m .drops) ≡ 0
+  pub undropped : (x : ℕ) → T (has x (keys (change s m .adds))) → times x (change s m .drops) ≡ 0
   undropped x t =
       omega (
         arith,
@@ -482,7 +482,7 @@ module _ (s : Store) (r : Right s) (m : Step) (ev : Even m) (s' : Store) (e : de
               on (owns s v) ∙ held-number v (owned s) ∙ ap (ltb 0) same ∙ sym (held-number v (owned s'))
 
   -- a branch is dead after the step
-  pub dead : ℕ → Bool
+  unfoldable pub dead : ℕ → Bool
   dead b = not (ltb 0 (places s' b) || inUse (change s m .inputs) b)
 
   -- the same, told by the branches that die: those that join come out of a slot

@@ -1,12 +1,17 @@
 -- The nodes that the rules' changes add, each by a name of its own. Assumes nothing.
+use mathlib.Core.Bool.{Bool, true, false, cond}
+use mathlib.Core.Option.{Option, none, some}
 use mathlib.Core.Path.{_≡_, refl}
 use mathlib.Core.List.{List, [], _∷_, _++_, map}
 use Prim.Native.Nat.{ℕ, suc, _-_, _≤_}
+use native.Mathlib.Omega.{arith}
+use lib.Dec.{eqb}
 use lib.ListN.{length, getD, set, take, drop}
 use Rattle.units.specs.Limits.{room}
-use Rattle.rules.specs.Store.{Node, Store, rootList, slotUnits}
+use Rattle.rules.specs.Tables.{orElse}
+use Rattle.rules.specs.Store.{Node, Store, blank, nodeAt, rootList, slotUnits}
 use Rattle.rules.specs.Steps.{moved, flushedOffsets, rootNode, slotAt, splitEnds, flushEnds, commitEnds, memtableChange, growChange}
-use Rattle.rules.specs.Right.{NodeOk}
+use Rattle.rules.specs.Right.{NodeOk, Sound}
 
 -- a node that eight places hold
 pub record Fits (n : Node) : Type 0 where
@@ -16,6 +21,24 @@ pub record Fits (n : Node) : Type 0 where
 
 pub right-fits : (s : Store) (n : Node) → NodeOk s n → Fits n
 right-fits s n o = record { few-buffers = o .few-buffers; few-children = o .few-children; paired = o .paired }
+
+pub blank-fits : Fits blank
+blank-fits = record { few-buffers = omega arith; few-children = omega arith; paired = refl }
+
+-- every node of a store that is sound
+pub sound-fits : (s : Store) → Sound s → (u : ℕ) → Fits (nodeAt s u)
+sound-fits s o u = go (s .nodes u) refl
+  where
+    go : (x : Option Node) → s .nodes u ≡ x → Fits (orElse blank x)
+    go none e = blank-fits
+    go (some n) e = right-fits s n (o .node u n e)
+
+pub root-fits : (s : Store) → Sound s → Fits (rootNode s)
+root-fits s o = go (eqb (s .root) 0)
+  where
+    go : (b : Bool) → Fits (cond b blank (nodeAt s (s .root)))
+    go true = blank-fits
+    go false = sound-fits s o (s .root)
 
 abbrev pub buffersAre : Node → List ℕ → Node
 buffersAre n l = record { buffers = l; children = n .children; offsets = n .offsets }

@@ -34,7 +34,7 @@ flat-has children u (x ∷ xs) t =
     (λ (q : T (has u (flat children xs))). let r = flat-has children u xs q in (r .0, or-r (eqb x (r .0)) (has (r .0) xs) (r .1), r .2))
     (has-append u (children x) (flat children xs) t)
 
-some-has : (f : ℕ → Bool) (l : List ℕ) → T (someOf f l) → (v : ℕ) × T (has v l) × T (f v)
+pub some-has : (f : ℕ → Bool) (l : List ℕ) → T (someOf f l) → (v : ℕ) × T (has v l) × T (f v)
 some-has f [] t = absurd t
 some-has f (x ∷ xs) t =
     ⊎-elim
@@ -42,7 +42,7 @@ some-has f (x ∷ xs) t =
     (λ (q : T (someOf f xs)). let r = some-has f xs q in (r .0, or-r (eqb x (r .0)) (has (r .0) xs) (r .1), r .2))
     (or-e (f x) (someOf f xs) t)
 
-has-some : (f : ℕ → Bool) (l : List ℕ) (v : ℕ) → T (has v l) → T (f v) → T (someOf f l)
+pub has-some : (f : ℕ → Bool) (l : List ℕ) (v : ℕ) → T (has v l) → T (f v) → T (someOf f l)
 has-some f [] v t h = absurd t
 has-some f (x ∷ xs) v t h =
     ⊎-elim

@@ -22,7 +22,7 @@ replace-buffers-requires c κs = search needs
 
 returns : tie.Need-returns
 unfolding commitNode
-returns c = cc
+returns c = rw (c .replace-buffers .ensures, c .before .one .ensures, c .before .before .move-offsets .ensures, c .before .before .before .before .less .ensures)
 
 pub commit-node-spec : {M : Type 1} → statement M
 commit-node-spec =

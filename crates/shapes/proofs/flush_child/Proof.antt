@@ -24,7 +24,7 @@ replace-buffers-requires : tie.Need-replace-buffers-requires
 replace-buffers-requires c κs = search needs
 
 returns : tie.Need-returns
-returns c = cc
+returns c = rw (c .replace-buffers .ensures, c .before .less .ensures, c .before .before .replace .ensures, c .before .before .before .before .before .offset-of .ensures)
 
 pub flush-child-spec : {M : Type 1} → statement M
 flush-child-spec =

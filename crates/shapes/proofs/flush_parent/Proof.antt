@@ -29,7 +29,7 @@ replace-buffers-requires c κs = search needs
 
 returns : tie.Need-returns
 unfolding flushParent
-returns c = cc
+returns c = rw (c .replace-buffers .ensures, c .before .none .ensures, c .before .before .lower .ensures, c .before .before .before .before .replace-children .ensures, c .before .before .before .before .before .one2 .ensures, c .before .before .before .before .before .before .one .ensures)
 
 pub flush-parent-spec : {M : Type 1} → statement M
 flush-parent-spec =

@@ -21,7 +21,7 @@ add-result : tie.Need-add-result
 add-result c = search needs
 
 returns : tie.Need-returns
-returns c = cc
+returns c = rw (c .less .ensures, c .before .offset-of .ensures)
 
 pub flush-room-spec : {M : Type 1} → statement M
 flush-room-spec =

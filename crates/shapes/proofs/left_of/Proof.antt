@@ -15,7 +15,7 @@ replace-children-requires : tie.Need-replace-children-requires
 replace-children-requires c κs = search needs
 
 returns : tie.Need-returns
-returns c = cc
+returns c = rw (c .replace-children .ensures, c .before .none2 .ensures, c .before .before .none .ensures)
 
 pub left-of-spec : {M : Type 1} → statement M
 left-of-spec = tie.close (tie.spec none-requires none-requires-2 replace-children-requires returns)

@@ -14,7 +14,7 @@ number-after-requires c κs = search needs
 
 returns : tie.Need-returns
 unfolding replaceBuffers
-returns c = cc
+returns c = rw (c .number-after .ensures, c .before .replace .ensures)
 
 pub replace-buffers-spec : {M : Type 1} → statement M
 replace-buffers-spec = tie.close (tie.spec replace-requires number-after-requires returns)

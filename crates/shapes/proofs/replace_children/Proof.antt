@@ -17,7 +17,7 @@ number-after-requires c κs = search needs
 
 returns : tie.Need-returns
 unfolding replaceChildren
-returns c = cc
+returns c = rw (c .number-after .ensures, c .before .replace2 .ensures, c .before .before .replace .ensures)
 
 pub replace-children-spec : {M : Type 1} → statement M
 replace-children-spec =

@@ -15,7 +15,7 @@ replace-children-requires : tie.Need-replace-children-requires
 replace-children-requires c κs = search needs
 
 returns : tie.Need-returns
-returns c = cc
+returns c = rw (c .replace-children .ensures, c .before .none2 .ensures, c .before .before .none .ensures)
 
 pub right-of-spec : {M : Type 1} → statement M
 right-of-spec =

@@ -19,7 +19,7 @@ replace-children-requires : tie.Need-replace-children-requires
 replace-children-requires c κs = search needs
 
 returns : tie.Need-returns
-returns c = cc
+returns c = rw (c .replace-children .ensures, c .before .two2 .ensures, c .before .before .two .ensures, c .before .before .before .offset-of .ensures)
 
 pub split-parent-spec : {M : Type 1} → statement M
 split-parent-spec =

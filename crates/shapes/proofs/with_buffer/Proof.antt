@@ -12,7 +12,7 @@ replace-buffers-requires : tie.Need-replace-buffers-requires
 replace-buffers-requires c κs = search needs
 
 returns : tie.Need-returns
-returns c = cc
+returns c = rw (c .replace-buffers .ensures, c .before .one .ensures)
 
 pub with-buffer-spec : {M : Type 1} → statement M
 with-buffer-spec = tie.close (tie.spec one-requires replace-buffers-requires returns)

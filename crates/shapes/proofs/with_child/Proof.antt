@@ -19,7 +19,7 @@ replace-children-requires : tie.Need-replace-children-requires
 replace-children-requires c κs = search needs
 
 returns : tie.Need-returns
-returns c = cc
+returns c = rw (c .replace-children .ensures, c .before .one2 .ensures, c .before .before .one .ensures, c .before .before .before .offset-of .ensures)
 
 pub with-child-spec : {M : Type 1} → statement M
 with-child-spec =

@@ -1,0 +1,60 @@
+-- `tables::names` meets its contract. Assumes nothing.
+use mathlib.Core.Path.{_≡_, ap}
+use Rattle.tables.proofs.Loops.{rest, rest-start, rest-end, rest-past, names-hit, names-miss, names-none}
+use Prim.Native.Nat.{_-_}
+use lib.ListN.{length, take}
+use borrow.Author.Tests.{eq-eqb, ne-eqb}
+use Rattle.units.specs.Limits.{room}
+use Rattle.ways.specs.Ways.{has}
+use borrow.Author.Needs.{needs}
+use Rattle.tables.proofs.names.Statement.{statement}
+use Rattle.tables.proofs.names.Tie as tie
+
+abbrev Inv-loop : tie.InvT-loop
+Inv-loop roots number end root i₀ i = (length roots ≡ room) × (has root (rest roots end i) ≡ has root (take number roots))
+
+abbrev μ-loop : tie.MeasureT-loop
+μ-loop roots number end root i₀ i = room - i
+
+cast-end : tie.Need-cast-end Inv-loop μ-loop
+cast-end c = search needs
+
+loop-holds : tie.Need-loop-holds Inv-loop μ-loop
+loop-holds c = (search needs, ap (has (c .before .args .b .0)) (rest-start (c .before .args .x .roots) (c .before .args .x .number)))
+
+returns : tie.Need-returns Inv-loop μ-loop
+returns c = let a = c .before .before .before .before .args in names-none (a .x .roots) (a .x .number) (c .before .before .loop .i) (a .b .0) _ (c .before .before .loop .inv .1) (rest-end (a .x .roots) (a .x .number) (c .before .before .loop .i) (c .if1 .taken))
+
+array-read-if2 : tie.Need-array-read-if2 Inv-loop μ-loop
+array-read-if2 c = search needs
+
+returns-2 : tie.Need-returns-2 Inv-loop μ-loop
+returns-2 c = let a = c .before .before .before .before .before .args in names-hit (a .x .roots) (a .x .number) (c .before .before .before .loop .i) (a .b .0) _ (c .before .before .before .loop .inv .1) (search needs) (search needs) (eq-eqb _ _ (c .if2 .taken))
+
+add-i : tie.Need-add-i Inv-loop μ-loop
+add-i c = search needs
+
+loop-less : tie.Need-loop-less Inv-loop μ-loop
+loop-less c = search needs
+
+loop-again : tie.Need-loop-again Inv-loop μ-loop
+loop-again c = let a = c .before .before .before .before .before .args in (search needs, names-miss (a .x .roots) (a .x .number) (c .before .before .before .loop .i) (a .b .0) _ (c .before .before .before .loop .inv .1) (search needs) (search needs) (ne-eqb _ _ (c .if2 .left)))
+
+returns-3 : tie.Need-returns-3 Inv-loop μ-loop
+returns-3 c = let a = c .before .before .before .args in names-none (a .x .roots) (a .x .number) (c .before .loop .i) (a .b .0) _ (c .before .loop .inv .1) (rest-past (a .x .roots) (a .x .number) (c .before .loop .i) (search needs))
+
+pub names-spec : {M : Type 1} → statement M
+names-spec =
+    tie.close
+    (tie.spec
+    Inv-loop
+    μ-loop
+    cast-end
+    loop-holds
+    returns
+    array-read-if2
+    returns-2
+    add-i
+    loop-less
+    loop-again
+    returns-3)
