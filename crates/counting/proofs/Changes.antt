@@ -22,7 +22,7 @@ use Rattle.counting.proofs.Counts.{none-times, drop-here, drop-there, d
 
 -- ---- the test at a list's head, in terms of its tail
 
-gone-here : (c : ℕ) (us : List ℕ) (v u : ℕ) → u ≡ v → gone c (u ∷ us) v ≡ (leb c 1 || gone (c - 1) us v)
+pub gone-here : (c : ℕ) (us : List ℕ) (v u : ℕ) → u ≡ v → gone c (u ∷ us) v ≡ (leb c 1 || gone (c - 1) us v)
 gone-here c us v u e = rw (eq-eqb u v e) (go (leb c 1) refl (has v us) refl)
   where
     go : (b : Bool) → leb c 1 ≡ b → (x : Bool) → has v us ≡ x → leb c (1 + times v us) ≡ (b || (x && leb (c - 1) (times v us)))
@@ -34,7 +34,7 @@ gone-here c us v u e = rw (eq-eqb u v e) (go (leb c 1) refl (has v us) refl)
         same true y = le-leb c (1 + times v us) (omega (arith, leb-true (c - 1) (times v us) y))
         same false y = lt-leb c (1 + times v us) (omega (arith, leb-false (c - 1) (times v us) y))
 
-gone-there : (c : ℕ) (us : List ℕ) (v u : ℕ) → (u ≡ v → ⊥) → gone c (u ∷ us) v ≡ gone c us v
+pub gone-there : (c : ℕ) (us : List ℕ) (v u : ℕ) → (u ≡ v → ⊥) → gone c (u ∷ us) v ≡ gone c us v
 gone-there c us v u d =
     let n : one (eqb u v) + times v us ≡ times v us = omega (arith, ap one (ne-eqb u v d)) in
     ap₂ (λ (x : Bool) (k : ℕ). (x || has v us) && leb c k) (ne-eqb u v d) n

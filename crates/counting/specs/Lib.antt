@@ -1,3 +1,4 @@
 pub mod Nodes
 pub mod Change
 pub mod Places
+pub mod Graph

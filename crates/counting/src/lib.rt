@@ -214,7 +214,7 @@ pub fn drop_place(counts: &mut [u16; 512], b: BranchRoot)
 }
 
 // A node has eight places.
-fn up_to(to: u8) -> usize
+pub fn up_to(to: u8) -> usize
     ensures { λ r. ⌜ (r ≤ room) × (r ≡ upTo to) ⌝ }
 {
     if to < 8 {

@@ -15,7 +15,7 @@ fn bit_at(w: u64, k: u8) -> bool
     (w >> k) % 2 == 1
 }
 
-fn one_at(k: u8) -> u64
+pub fn one_at(k: u8) -> u64
     requires { ⌜ k < 64 ⌝ }
     ensures { λ r. ⌜ r ≡ 2 ^ k ⌝ }
 {
@@ -121,7 +121,7 @@ pub fn lowest_free(map: &[u64; 4]) -> u8
     0
 }
 
-fn lowest_one(w: u64) -> u32
+pub fn lowest_one(w: u64) -> u32
     ensures { λ r. ⌜ r ≡ trailingZeros 64 w ⌝ }
 {
     u64::trailing_zeros(w)

@@ -16,7 +16,7 @@ use Rattle.rules.specs.Tables.{all}
 use Rattle.rules.specs.Store.{Store}
 use Rattle.rules.specs.Steps.{Outcome, accepted, refused, Change, need, next, small, fresh, fit, extended, decide, step, stepIn}
 use Rattle.right.specs.Runs.{linesOf, changeOf, table}
-use Rattle.lines.specs.Lines.{unless, firstOf, numbered, headOf, number, Agree}
+use Rattle.lines.specs.Lines.{unless, firstOf, numbered, headOf, number, testsOf, Agree}
 
 -- ---- the first test that fails
 
@@ -155,6 +155,10 @@ agree-first n (x ∷ xs) (y ∷ ys) a =
     go : (b : Bool) → y ≡ b → (y ≡ true → firstOf (numbered (suc n) xs) ≡ firstOf (numbered (suc n) ys)) → unless b n (firstOf (numbered (suc n) xs)) ≡ unless b n (firstOf (numbered (suc n) ys))
     go true e more = more e
     go false e more = refl
+
+-- code whose tests agree with the rules' answers the rules' number
+pub agree-number : (s : Store) (c : Change) (tests : List Bool) → Agree tests (testsOf s c) → firstOf (numbered 4 tests) ≡ number (decide s c)
+agree-number s c tests a = agree-first 4 tests (testsOf s c) a ∙ sym (decide-number s c)
 
 pub accepted-of : (o : Outcome) → number o ≡ 0 → ((n : ℕ) → o ≡ refused n → 1 ≤ n) → (s' : Store) × (o ≡ accepted s')
 accepted-of (accepted s') e h = (s', refl)

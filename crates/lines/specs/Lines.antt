@@ -8,7 +8,9 @@ use lib.Dec.{eqb, leb}
 use lib.ListN.{length}
 use Rattle.units.specs.Limits.{lastUnit, lastKind}
 use Rattle.units.specs.Bodies.{bodyLength}
-use Rattle.rules.specs.Steps.{Outcome, accepted, refused}
+use Rattle.rules.specs.Tables.{all}
+use Rattle.rules.specs.Store.{Store}
+use Rattle.rules.specs.Steps.{Outcome, accepted, refused, Change, extended, small, fresh, fit}
 
 abbrev pub unless : Bool → ℕ → ℕ → ℕ
 unless true n m = m
@@ -33,6 +35,20 @@ headOf (kind ∷ body) room =
 abbrev pub number : Outcome → ℕ
 number (accepted s) = 0
 number (refused n) = n
+
+-- what the lines 4 to 12 of the table ask of a change
+abbrev pub testsOf : Store → Change → List Bool
+testsOf s c =
+    c .shape
+    ∷ c .slot
+    ∷ c .path
+    ∷ c .range
+    ∷ c .input
+    ∷ all small (c .adds)
+    ∷ c .low
+    ∷ fresh s (c .proposed)
+    ∷ fit (extended s c)
+    ∷ []
 
 -- alike as far as they matter: each test where those before it pass
 abbrev pub Agree : List Bool → List Bool → Type 0

@@ -20,6 +20,14 @@ use borrow.Author.Tests.{eqb-true, eqb-false, ltb-true, ltb-false}
 abbrev pub Row : List ℕ → ℕ → List ℕ → Type 0
 Row l b ws = (k : ℕ) → k < length ws → getD l (b + k) 0 ≡ getD ws k 0
 
+-- each is a byte
+pub record AllBytes (l : List ℕ) : Type 0 where
+  pub small : (i : ℕ) → getD l i 0 < 256
+
+pub no-bytes : (l : List ℕ) → length l ≡ 0 → AllBytes l
+no-bytes [] e = record { small = λ i. omega arith }
+no-bytes (x ∷ xs) e = absurd (omega arith)
+
 -- n places from b on and m places from c on do not meet
 abbrev pub Apart : ℕ → ℕ → ℕ → ℕ → Type 0
 Apart b n c m = (j k : ℕ) → j < n → k < m → b + j ≡ c + k → ⊥
@@ -153,7 +161,7 @@ eight-snoc (a ∷ b ∷ c ∷ d ∷ e ∷ f ∷ []) u h = refl
 eight-snoc (a ∷ b ∷ c ∷ d ∷ e ∷ f ∷ g ∷ []) u h = refl
 eight-snoc (a ∷ b ∷ c ∷ d ∷ e ∷ f ∷ g ∷ x ∷ r) u h = absurd (omega arith)
 
-eight-pad : (l : List ℕ) → length l ≤ room → eight l ≡ l ++ replicate (room - length l) 0
+pub eight-pad : (l : List ℕ) → length l ≤ room → eight l ≡ l ++ replicate (room - length l) 0
 eight-pad [] h = refl
 eight-pad (a ∷ []) h = refl
 eight-pad (a ∷ b ∷ []) h = refl

@@ -3,7 +3,7 @@ ghost use Prim.Native.Nat.{_≤_, _+_};
 ghost use mathlib.Core.Path.{_≡_};
 ghost use lib.ListN.{length};
 ghost use Rattle.units.specs.Limits.{room};
-ghost use Rattle.records.specs.Rows.{eightAt, poured};
+ghost use Rattle.records.specs.Rows.{eightAt, poured, AllBytes};
 
 // The bytes of src into s from `at` on.
 pub fn pour(s: &mut [u8], at: usize, src: &[u8])
@@ -32,4 +32,14 @@ pub fn eight(s: &[u8], at: usize) -> [u8; 8]
         s[at + 6],
         s[at + 7],
     ]
+}
+
+// What the type of a byte says, told to the proofs: each is below 256. The code does nothing with it.
+pub fn bytes(s: &[u8])
+    ensures { λ _. ⌜ AllBytes (now (s .entry)) ⌝ }
+{
+    if s.len() == 0 {
+        return;
+    }
+    let _first = s[0];
 }

@@ -17,7 +17,7 @@ use Rattle.rules.specs.Tables.{all, range}
 use Rattle.rules.specs.Store.{opened, sealed, slotUnits, inUse}
 use Rattle.records.specs.Rows.{eight, eight-snoc}
 use Rattle.tables.specs.Hold.{HoldIs, codedSlot, inputIn, rootsOf, inputsFrom, inUseIn}
-use Rattle.tables.specs.Slots.{takenIn, front, sealedIn}
+use Rattle.tables.specs.Slots.{takenSlot, front, sealedSlot}
 use Rattle.tables.proofs.Kept.{input-read}
 
 -- the eight places are the list and zeros behind it
@@ -73,14 +73,14 @@ module _ {bs : ℕ → Option (List ℕ)} {xs : List Rattle.rules.specs.Store.S
 -- ---- slots
 
 -- kind 1, "take"
-pub taken-is : (y : Rattle.rules.specs.Store.Slot) (u : ℕ) → length (slotUnits y) < room → takenIn (codedSlot y) u ≡ codedSlot (opened (slotUnits y ++ (u ∷ [])))
-unfolding takenIn
+pub taken-is : (y : Rattle.rules.specs.Store.Slot) (u : ℕ) → length (slotUnits y) < room → takenSlot (codedSlot y) u ≡ codedSlot (opened (slotUnits y ++ (u ∷ [])))
+unfolding takenSlot
 taken-is y u h =
     let us : List ℕ = slotUnits y in
     rw (lt-ltb (length us) room h, eight-snoc us u h, length-append us (u ∷ []))
 
 -- kind 2, "seal": "keeps the first k units"
-pub sealed-is : (y : Rattle.rules.specs.Store.Slot) (n : ℕ) → length (slotUnits y) ≤ room → n ≤ length (slotUnits y) → sealedIn (codedSlot y) n ≡ codedSlot (sealed (take n (slotUnits y)))
+pub sealed-is : (y : Rattle.rules.specs.Store.Slot) (n : ℕ) → length (slotUnits y) ≤ room → n ≤ length (slotUnits y) → sealedSlot (codedSlot y) n ≡ codedSlot (sealed (take n (slotUnits y)))
 unfolding front
 sealed-is y n h q =
     let us : List ℕ = slotUnits y in

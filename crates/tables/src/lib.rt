@@ -10,12 +10,12 @@ ghost use Rattle.rules.specs.Store.{empty};
 ghost use Rattle.records.specs.Rows.{eight};
 ghost use Rattle.tables.specs.Hold.{branchIn, slotIn, inputIn, putBranch, putSlot, putInput};
 ghost use Rattle.tables.specs.Hold.{codedBranch, codedSlot, codedInput, rootsOf, inUseIn, slotRow};
-ghost use Rattle.tables.specs.Slots.{takenIn, front, sealedIn};
+ghost use Rattle.tables.specs.Slots.{takenSlot, front, sealedSlot};
 
 // The bytes of a row: a number and eight places, a slot's state besides.
-const LIST: usize = 9;
+const LIST_ROW: usize = 9;
 
-const SLOT: usize = 10;
+const SLOT_ROW: usize = 10;
 
 // Where the slots and the inputs begin.
 const SLOTS: usize = 2304;
@@ -86,7 +86,7 @@ pub fn read_branch(hold: &[u8; 2380], b: BranchRoot) -> Branch
     ensures { λ r. ⌜ r ≡ branchIn (now (hold .entry)) (b .0) ⌝ }
 {
     let root = b.0;
-    let at = root as usize * LIST;
+    let at = root as usize * LIST_ROW;
     let units = records::eight(hold, at + 1);
     Branch {
         number: hold[at],
@@ -101,7 +101,7 @@ pub fn write_branch(hold: &mut [u8; 2380], b: BranchRoot, x: Branch)
     let number = x.number;
     let us = x.units;
     let row = list_row(number, us);
-    records::pour(hold, root as usize * LIST, &row);
+    records::pour(hold, root as usize * LIST_ROW, &row);
 }
 
 pub fn blank_branch(hold: &mut [u8; 2380], b: BranchRoot)
@@ -134,7 +134,7 @@ pub fn read_slot(hold: &[u8; 2380], k: UnfinishedSlot) -> Slot
 {
     let slot = k.0;
     if slot < UnfinishedSlot::COUNT {
-        let at = SLOTS + slot as usize * SLOT;
+        let at = SLOTS + slot as usize * SLOT_ROW;
         let units = records::eight(hold, at + 2);
         return Slot {
             state: hold[at],
@@ -153,7 +153,7 @@ pub fn write_slot(hold: &mut [u8; 2380], k: UnfinishedSlot, x: Slot)
         return;
     }
     let row = slot_row(x);
-    records::pour(hold, SLOTS + slot as usize * SLOT, &row);
+    records::pour(hold, SLOTS + slot as usize * SLOT_ROW, &row);
 }
 
 pub fn empty_slot(hold: &mut [u8; 2380], k: UnfinishedSlot)
@@ -164,7 +164,7 @@ pub fn empty_slot(hold: &mut [u8; 2380], k: UnfinishedSlot)
 
 // The slot open, with u after its units; a full slot stays.
 pub fn taken(x: Slot, u: u8) -> Slot
-    ensures { λ r. ⌜ r ≡ takenIn x u ⌝ }
+    ensures { λ r. ⌜ r ≡ takenSlot x u ⌝ }
 {
     let number = x.number;
     if number < 8 {
@@ -195,7 +195,7 @@ fn first(us: [u8; 8], n: u8) -> [u8; 8]
 
 // The slot sealed, with its first n units.
 pub fn sealed_to(x: Slot, n: u8) -> Slot
-    ensures { λ r. ⌜ r ≡ sealedIn x n ⌝ }
+    ensures { λ r. ⌜ r ≡ sealedSlot x n ⌝ }
 {
     let us = x.units;
     let units = first(us, n);
@@ -222,7 +222,7 @@ pub fn read_input(hold: &[u8; 2380], k: CompactorSlot) -> Input
 {
     let slot = k.0;
     if slot < CompactorSlot::COUNT {
-        let at = INPUTS + slot as usize * LIST;
+        let at = INPUTS + slot as usize * LIST_ROW;
         let roots = records::eight(hold, at + 1);
         return Input {
             number: hold[at],
@@ -242,7 +242,7 @@ pub fn write_input(hold: &mut [u8; 2380], k: CompactorSlot, x: Input)
     let number = x.number;
     let roots = x.roots;
     let row = list_row(number, roots);
-    records::pour(hold, INPUTS + slot as usize * LIST, &row);
+    records::pour(hold, INPUTS + slot as usize * LIST_ROW, &row);
 }
 
 pub fn end_input(hold: &mut [u8; 2380], k: CompactorSlot)

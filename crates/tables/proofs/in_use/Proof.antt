@@ -4,6 +4,7 @@ use mathlib.Core.Path.{_≡_}
 use Rattle.units.specs.Limits.{compactorCount}
 use Rattle.tables.specs.Hold.{inUseIn}
 use Rattle.tables.proofs.Loops.{left, found, in-use-start, in-use-hit, in-use-miss, in-use-end}
+use native.Mathlib.Omega.{arith}
 use borrow.Author.Needs.{needs}
 use Rattle.tables.proofs.in_use.Statement.{statement}
 use Rattle.tables.proofs.in_use.Tie as tie
@@ -36,7 +37,7 @@ loop-again : tie.Need-loop-again Inv-loop μ-loop
 loop-again c = let a = c .before .before .before .before .before .args in in-use-miss (a .hold .now) (a .b .0) (c .before .before .before .before .loop .k) _ (c .before .before .before .before .loop .inv) (search needs) (found (a .hold .now) (a .b .0) (c .before .before .before .before .loop .k) _ _ _ (c .before .before .read-input .ensures) (c .before .names .ensures) (c .if1 .left))
 
 returns-2 : tie.Need-returns-2 Inv-loop μ-loop
-returns-2 c = let a = c .before .before .args in in-use-end (a .hold .now) (a .b .0) (c .before .loop .k) _ (c .before .loop .inv) (search needs)
+returns-2 c = let a = c .before .before .args in in-use-end (a .hold .now) (a .b .0) (c .before .loop .k) _ (c .before .loop .inv) (omega arith)
 
 pub in-use-spec : {M : Type 1} → statement M
 in-use-spec =

@@ -1,6 +1,6 @@
 -- `tables::taken` meets its contract. Assumes nothing.
 use borrow.Author.Tests.{lt-ltb, le-ltb}
-use Rattle.tables.specs.Slots.{takenIn}
+use Rattle.tables.specs.Slots.{takenSlot}
 use borrow.Author.Needs.{needs}
 use Rattle.tables.proofs.taken.Statement.{statement}
 use Rattle.tables.proofs.taken.Tie as tie
@@ -15,11 +15,11 @@ add-t9 : tie.Need-add-t9
 add-t9 c = search needs
 
 returns : tie.Need-returns
-unfolding takenIn
+unfolding takenSlot
 returns c = rw (lt-ltb _ _ (c .before .if1 .taken)) (cc)
 
 returns-2 : tie.Need-returns-2
-unfolding takenIn
+unfolding takenSlot
 returns-2 c = rw (le-ltb _ _ (c .if1 .left))
 
 pub taken-spec : {M : Type 1} → statement M

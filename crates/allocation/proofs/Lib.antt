@@ -1,0 +1,5 @@
+pub mod Loops
+pub mod Going
+pub mod Fresh
+pub mod Gains
+pub mod Swept

@@ -1,0 +1,4 @@
+pub mod Going
+pub mod Fresh
+pub mod Gains
+pub mod Sweep
