@@ -1,3 +1,4 @@
 pub mod Counts
 pub mod Maps
 pub mod Changes
+pub mod Unique
