@@ -2,7 +2,7 @@
 use mathlib.Core.Path.{_≡_, refl, sym, ap, ap₂, _∙_}
 use mathlib.Core.Bool.{Bool, true, false, _||_, _&&_, not, cond}
 use mathlib.Core.List.{List, [], _∷_, _++_}
-use Prim.Native.Nat.{ℕ, zero, suc, _≤_}
+use Prim.Native.Nat.{ℕ, zero, suc}
 use native.Mathlib.Omega.{arith}
 use lib.Dec.{eqb, leb}
 use borrow.Author.Tests.{le-leb, eqb-true, eqb-false, eq-eqb, ne-eqb}
@@ -11,7 +11,7 @@ use Rattle.ways.specs.Ways.{has}
 use Rattle.rules.specs.Tables.{all, distinct}
 use Rattle.rules.specs.Store.{Store, held}
 use Rattle.rules.specs.Steps.{fresh}
-use Rattle.held_map.specs.Map.{heldIn, mark}
+use Rattle.held_map.specs.Map.{mark}
 use Rattle.counting.proofs.Counts.{Low}
 use Rattle.state.specs.Standing.{MapIs, marks}
 use Rattle.state.proofs.Maps.{map-hold}

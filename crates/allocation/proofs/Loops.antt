@@ -2,7 +2,7 @@
 use mathlib.Core.Bool.{Bool, true, false, _&&_, not, cond}
 use mathlib.Core.Path.{_≡_, refl, ap, sym, _∙_}
 use mathlib.Core.List.{List, [], _∷_}
-use Prim.Native.Nat.{ℕ, zero, suc, _+_, _-_, _≤_, _<_}
+use Prim.Native.Nat.{ℕ, _+_, _-_, _≤_, _<_}
 use native.Mathlib.Omega.{arith}
 use native.Mathlib.Numerals.{add-one}
 use lib.Dec.{eqb, leb, ltb}
@@ -19,7 +19,7 @@ use Rattle.counting.proofs.Each.{run-start, run-turn, run-end}
 use Rattle.state.specs.Standing.{marks}
 use Rattle.allocation.specs.Going.{letGoMap, letGoMaps}
 use Rattle.allocation.specs.Fresh.{newIn, freshIn, freshMarks}
-use Rattle.allocation.specs.Gains.{fitsCount, gainFits, gainsFit}
+use Rattle.allocation.specs.Gains.{gainFits, gainsFit}
 use Rattle.allocation.specs.Sweep.{sweptHold, sweptMap, sweepHold, sweepMap}
 
 -- ---- over a list from place i on
@@ -91,18 +91,18 @@ pub record FreshLoop (m us s : List ℕ) (i : ℕ) : Type 0 where
   pub seen : freshMarks s (drop i us) ≡ freshMarks m us
 
 module _ {m us s : List ℕ} {i : ℕ} (l : FreshLoop m us s i) where
+  -- by whether the next unit is new
+  next-answer : (b : Bool) → i < length us → newIn s (getD us i 0) ≡ b → (b && freshIn (mark s (getD us i 0)) (drop (i + 1) us)) ≡ freshIn m us
+  next-answer b q e = sym (ap (λ (b : Bool). b && freshIn (mark s (getD us i 0)) (drop (i + 1) us)) e) ∙ rest-turn (freshIn s) us i (freshIn m us) (l .answer) q
+
+  next-seen : (b : Bool) → i < length us → newIn s (getD us i 0) ≡ b → cond b (freshMarks (mark s (getD us i 0)) (drop (i + 1) us)) s ≡ freshMarks m us
+  next-seen b q e = sym (ap (λ (b : Bool). cond b (freshMarks (mark s (getD us i 0)) (drop (i + 1) us)) s) e) ∙ rest-turn (freshMarks s) us i (freshMarks m us) (l .seen) q
+
   pub fresh-no : i < length us → newIn s (getD us i 0) ≡ false → (false ≡ freshIn m us) × (s ≡ freshMarks m us)
-  fresh-no q e = (
-    sym (ap (λ (b : Bool). b && freshIn (mark s (getD us i 0)) (drop (i + 1) us)) e) ∙ rest-turn (freshIn s) us i (freshIn m us) (l .answer) q,
-    sym (ap (λ (b : Bool). cond b (freshMarks (mark s (getD us i 0)) (drop (i + 1) us)) s) e) ∙ rest-turn (freshMarks s) us i (freshMarks m us) (l .seen) q,
-  )
+  fresh-no q e = (next-answer false q e, next-seen false q e)
 
   pub fresh-turn : (s' : List ℕ) → i < length us → newIn s (getD us i 0) ≡ true → s' ≡ mark s (getD us i 0) → FreshLoop m us s' (i + 1)
-  fresh-turn s' q e es =
-      record {
-        answer = rw es (sym (ap (λ (b : Bool). b && freshIn (mark s (getD us i 0)) (drop (i + 1) us)) e) ∙ rest-turn (freshIn s) us i (freshIn m us) (l .answer) q);
-        seen = rw es (sym (ap (λ (b : Bool). cond b (freshMarks (mark s (getD us i 0)) (drop (i + 1) us)) s) e) ∙ rest-turn (freshMarks s) us i (freshMarks m us) (l .seen) q);
-      }
+  fresh-turn s' q e es = record { answer = rw es (next-answer true q e); seen = rw es (next-seen true q e) }
 
   pub fresh-end : length us ≤ i → (true ≡ freshIn m us) × (s ≡ freshMarks m us)
   fresh-end q = (rest-end (freshIn s) us i (freshIn m us) (l .answer) q, rest-end (freshMarks s) us i (freshMarks m us) (l .seen) q)
@@ -124,13 +124,13 @@ module _ (m : List ℕ) (u : ℕ) where
 
 -- ---- over a run of eight places
 
+at-most : (t : Bool) → one t ≤ 1
+at-most true = omega arith
+at-most false = omega arith
+
 times-few : (b : ℕ) (l : List ℕ) → times b l ≤ length l
 times-few b [] = omega arith
 times-few b (x ∷ l) = omega (arith, at-most (eqb x b), times-few b l)
-  where
-    at-most : (t : Bool) → one t ≤ 1
-    at-most true = omega arith
-    at-most false = omega arith
 
 pub run-few : (bs : List ℕ) (from n b : ℕ) → length bs ≡ room → times b (slice from n bs) ≤ room
 run-few bs from n b e = omega (arith, times-few b (slice from n bs), length-take n (drop from bs), length-drop from bs)
@@ -160,21 +160,20 @@ times-turn {bs} {b} {whole} {end} {n} {i} l q e =
       few = omega (arith, l .few, at-most (eqb (getD bs i 0) b));
       left = omega (arith, e, run-next (λ (us : List ℕ). n + times b us) bs i end whole q (omega (arith, l .eight, l .short)) (l .left));
     }
-  where
-    at-most : (t : Bool) → one t ≤ 1
-    at-most true = omega arith
-    at-most false = omega arith
 
 pub times-end : {bs : List ℕ} {b whole end n i : ℕ} → TimesLoop bs b whole end n i → end ≤ i → n ≡ whole
 times-end {bs} {b} {whole} {end} {n} {i} l q = omega (arith, run-last (λ (us : List ℕ). n + times b us) bs i end whole q (l .left))
 
 -- whether all of a run pass
 module _ (f : ℕ → Bool) (bs : List ℕ) (i end : ℕ) (a : Bool) (h : all f (slice i (end - i) bs) ≡ a) where
+  all-next : (b : Bool) → i < end → end ≤ length bs → f (getD bs i 0) ≡ b → (b && all f (slice (i + 1) (end - (i + 1)) bs)) ≡ a
+  all-next b p q e = sym (ap (λ (b : Bool). b && all f (slice (i + 1) (end - (i + 1)) bs)) e) ∙ run-next (all f) bs i end a p q h
+
   pub all-no : i < end → end ≤ length bs → f (getD bs i 0) ≡ false → false ≡ a
-  all-no p q e = sym (ap (λ (b : Bool). b && all f (slice (i + 1) (end - (i + 1)) bs)) e) ∙ run-next (all f) bs i end a p q h
+  all-no p q e = all-next false p q e
 
   pub all-turn : i < end → end ≤ length bs → f (getD bs i 0) ≡ true → all f (slice (i + 1) (end - (i + 1)) bs) ≡ a
-  all-turn p q e = sym (ap (λ (b : Bool). b && all f (slice (i + 1) (end - (i + 1)) bs)) e) ∙ run-next (all f) bs i end a p q h
+  all-turn p q e = all-next true p q e
 
   pub all-end : end ≤ i → true ≡ a
   all-end p = run-last (all f) bs i end a p h

@@ -1,15 +1,15 @@
 -- What the array of branches and the map are after a sweep: of the roots looked at, those that are dead are no branch any more, and
 -- their units are free. Assumes nothing.
-use mathlib.Core.Path.{_≡_, refl, sym, ap, ap₂, _∙_, subst}
+use mathlib.Core.Path.{_≡_, refl, sym, ap, ap₂, _∙_}
 use mathlib.Core.Bool.{Bool, true, false, _||_, _&&_, not, cond}
 use mathlib.Core.Logic.{⊎-elim}
 use mathlib.Core.List.{List, [], _∷_, _++_}
-use mathlib.Core.Option.{Option, none, some}
+use mathlib.Core.Option.{Option, none}
 use Prim.Native.Nat.{ℕ, zero, suc, _≤_}
 use native.Mathlib.Omega.{arith}
 use lib.Dec.{T, eqb, leb}
 use lib.ListN.{length, replicate}
-use borrow.Author.Tests.{eqb-true, eq-eqb, ne-eqb}
+use borrow.Author.Tests.{eq-eqb, ne-eqb}
 use Rattle.units.specs.Limits.{lastUnit, room, compactorCount}
 use Rattle.ways.specs.Ways.{has}
 use Rattle.ways.specs.Levels.{someOf}
@@ -18,7 +18,7 @@ use Rattle.rules.specs.Tables.{all, orElse}
 use Rattle.rules.specs.Store.{Slot, inUse}
 use Rattle.held_map.specs.Map.{clears}
 use Rattle.records.specs.Rows.{eight}
-use Rattle.tables.specs.Hold.{HoldIs, branchIn, putBranch, codedBranch, inUseIn}
+use Rattle.tables.specs.Hold.{HoldIs, branchIn, putBranch, codedBranch}
 use Rattle.tables.proofs.Kept.{branch-read, hold-blank, hold-same}
 use Rattle.tables.proofs.Values.{in-use-is}
 use Rattle.counting.proofs.Counts.{Low}

@@ -2,15 +2,13 @@
 // that units are fresh, the test of the counts after a step, and the sweep of dead branches. Every function is right on any arrays.
 use units::BranchRoot;
 use units::NodeUnit;
-ghost use mathlib.Core.Bool.{not, cond};
+ghost use mathlib.Core.Bool.{not};
 ghost use mathlib.Core.Path.{_≡_};
 ghost use Prim.Native.Nat.{_+_, _-_, _<_};
 ghost use lib.Dec.{eqb, leb};
-ghost use lib.ListN.{getD};
 ghost use Rattle.units.specs.Limits.{mostCount};
 ghost use Rattle.ways.specs.Ways.{one};
 ghost use Rattle.rules.specs.Tables.{times, slice};
-ghost use Rattle.held_map.specs.Map.{clear};
 ghost use Rattle.counting.specs.Change.{dropTree, dropCount, dropTrees, dropCounts};
 ghost use Rattle.state.specs.Standing.{marks};
 ghost use Rattle.allocation.specs.Going.{letGoMap, letGoMaps, clearedIf};

@@ -1,8 +1,7 @@
 -- `allocation::occurrences` meets its contract. Assumes nothing.
 use Rattle.rules.specs.Tables.{times, slice}
-use mathlib.Core.List.{List}
 use native.Mathlib.Omega.{arith}
-use Prim.Native.Nat.{_-_, _+_}
+use Prim.Native.Nat.{_-_}
 use Rattle.allocation.proofs.Loops.{TimesLoop, times-turn, times-end, run-from}
 use borrow.Author.Needs.{needs}
 use Rattle.allocation.proofs.occurrences.Statement.{statement}

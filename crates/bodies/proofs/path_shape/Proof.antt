@@ -1,42 +1,33 @@
+-- `bodies::path_shape` meets its contract. Assumes nothing.
 use Rattle.bodies.proofs.Bodies.{shape-yes, shape-no}
 use borrow.Author.Needs.{needs}
 use Rattle.bodies.proofs.path_shape.Statement.{statement}
 use Rattle.bodies.proofs.path_shape.Tie as tie
-use Rattle.bodies.proofs.path_shape.Reads as reads
-use Rattle.bodies.proofs.path_shape.Lts as lts
 use Rattle.bodies.proofs.index_shape.Reads as index-shape-reads
 use Rattle.bodies.proofs.is_blank.Reads as is-blank-reads
 use Rattle.bodies.proofs.used.Reads as used-reads
 
--- src/lib.rt:69:8
 index-shape-requires : tie.Need-index-shape-requires
 index-shape-requires c κs = search needs
 
--- src/lib.rt:70:13
 used-requires : tie.Need-used-requires
 used-requires c κs = search needs
 
--- src/lib.rt:71:25
 sub-is-blank : tie.Need-sub-is-blank
 sub-is-blank c = search needs
 
--- src/lib.rt:71:25
 part-is-blank-start : tie.Need-part-is-blank-start
 part-is-blank-start c = search needs
 
--- src/lib.rt:71:25
 part-is-blank-end : tie.Need-part-is-blank-end
 part-is-blank-end c = search needs
 
--- src/lib.rt:71:9
 is-blank-requires : tie.Need-is-blank-requires
 is-blank-requires c κs = search needs
 
--- src/lib.rt:71:9
 returns : tie.Need-returns
 returns c = shape-yes (c .before .before .before .before .before .before .before .args .d) (c .before .before .used .result) (c .before .before .before .before .before .before .before .args .is .now) (c .before .before .before .before .before .before .before .args .fs .now) _ _ (c .before .before .before .before .index-shape .ensures) (c .before .before .before .if1 .taken) (c .before .before .used .ensures .1) (c .is-blank .ensures)
 
--- src/lib.rt:65:1
 returns-2 : tie.Need-returns-2
 returns-2 c = shape-no (c .before .before .before .before .args .d) (c .before .before .before .before .args .is .now) (c .before .before .before .before .args .fs .now) _ (c .before .index-shape .ensures) (c .if1 .left)
 

@@ -1,18 +1,15 @@
+-- `bodies::used` meets its contract. Assumes nothing.
 use Rattle.bodies.specs.Bodies.{usedOf}
 use borrow.Author.Tests.{lt-ltb, le-ltb}
 use native.Mathlib.Omega.{arith}
 use borrow.Author.Needs.{needs}
 use Rattle.bodies.proofs.used.Statement.{statement}
 use Rattle.bodies.proofs.used.Tie as tie
-use Rattle.bodies.proofs.used.Reads as reads
-use Rattle.bodies.proofs.used.Lts as lts
 
--- src/lib.rt:44:9
 returns : tie.Need-returns
 unfolding usedOf
 returns c = (omega arith, rw (lt-ltb _ 7 (c .if1 .taken)))
 
--- src/lib.rt:40:1
 returns-2 : tie.Need-returns-2
 unfolding usedOf
 returns-2 c = (omega arith, rw (le-ltb _ 7 (c .if1 .left)))
