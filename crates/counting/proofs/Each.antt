@@ -2,12 +2,12 @@
 -- Assumes nothing.
 use mathlib.Core.Bool.{Bool, true, false, cond}
 use mathlib.Core.Path.{_≡_, refl, ap, sym, _∙_}
-use mathlib.Core.List.{List, [], _∷_}
+use mathlib.Core.List.{List, [], _∷_, _++_}
 use Prim.Native.Nat.{ℕ, suc, _+_, _-_, _≤_, _<_}
 use native.Mathlib.Omega.{arith}
 use native.Mathlib.Numerals.{add-one}
 use lib.Dec.{ltb}
-use lib.ListN.{length, getD, drop, length-drop}
+use lib.ListN.{length, getD, take, drop, length-drop}
 use lib.Seq.{take-all, drop-cons}
 use borrow.Author.Tests.{ltb-false}
 use Rattle.units.specs.Limits.{room}
@@ -36,7 +36,17 @@ run-end bs i end p =
     let e : end - i ≡ 0 = omega arith in
     rw e refl
 
+-- the whole run
+pub run-whole : (bs : List ℕ) (number end : ℕ) → length bs ≡ room → end ≡ upTo number → slice 0 (end - 0) bs ≡ take number bs
+run-whole bs number end h e =
+    let z : number - 0 ≡ number = omega arith in
+    rw e (run-start bs 0 number h ∙ ap (λ (k : ℕ). take k bs) z)
+
 module _ (f : List ℕ → ℕ → List ℕ) where
+  pub each-append : (a b l : List ℕ) → each f l (a ++ b) ≡ each f (each f l a) b
+  each-append [] b l = refl
+  each-append (x ∷ a) b l = each-append a b (f l x)
+
   pub each-start : (l bs : List ℕ) (from to end : ℕ) → length bs ≡ room → end ≡ upTo to → each f l (slice from (end - from) bs) ≡ each f l (slice from (to - from) bs)
   each-start l bs from to end h e = rw (e, run-start bs from to h) refl
 

@@ -2,7 +2,7 @@
 use mathlib.Core.Path.{_≡_, refl, sym, ap, ap₂, _∙_}
 use mathlib.Core.Bool.{Bool, true, false, _||_, not, true≢false}
 use mathlib.Core.Logic.{_↔_}
-use mathlib.Core.List.{List, [], _∷_, _++_}
+use mathlib.Core.List.{List, [], _∷_, _++_, append-assoc}
 use Prim.Native.Nat.{ℕ, zero, suc, _+_, _≤_, _<_}
 use native.Mathlib.Nat.{zero-add, suc-add}
 use native.Mathlib.Omega.{arith}
@@ -40,6 +40,10 @@ module _ (b : ℕ) (g : ℕ → ℕ) (children children' : ℕ → List ℕ) (w 
   frame-list d cs z = sums-ext (walk 0 children g d) (walk b children w d) (walk b children' w' d) (frame d) cs z
 
 -- ---- a count is the weight summed over the visits, and the frame law by what is visited
+
+pub flat-append : (f : ℕ → List ℕ) (a b : List ℕ) → flat f (a ++ b) ≡ flat f a ++ flat f b
+flat-append f [] b = refl
+flat-append f (x ∷ a) b = ap (λ (l : List ℕ). f x ++ l) (flat-append f a b) ∙ sym (append-assoc (f x) (flat f a) (flat f b))
 
 pub sums-flat : (w : ℕ → ℕ) (f : ℕ → List ℕ) (cs : List ℕ) → sums w (flat f cs) ≡ sums (λ c. sums w (f c)) cs
 sums-flat w f [] = refl
