@@ -5,6 +5,7 @@ use units::CompactorSlot;
 use units::UnfinishedSlot;
 ghost use mathlib.Core.Path.{_≡_};
 ghost use mathlib.Core.List.{[], _∷_};
+ghost use lib.ListN.{take};
 ghost use Rattle.ways.specs.Ways.{has};
 ghost use Rattle.rules.specs.Store.{empty};
 ghost use Rattle.records.specs.Rows.{eight};
@@ -251,25 +252,31 @@ pub fn end_input(hold: &mut [u8; 2380], k: CompactorSlot)
     write_input(hold, k, no_input());
 }
 
-// Whether the branch is among the roots of the input; a number over 8 counts as 8.
-pub fn names(x: Input, b: BranchRoot) -> bool
-    ensures { λ r. ⌜ r ≡ has (b .0) (rootsOf x) ⌝ }
+// Whether u stands in the first `number` of the places; a number over 8 counts as 8.
+pub fn among(places: [u8; 8], number: u8, u: u8) -> bool
+    ensures { λ r. ⌜ r ≡ has u (take number places) ⌝ }
 {
-    let roots = x.roots;
-    let number = x.number;
     let end = number as usize;
-    let root = b.0;
     let mut i: usize = 0;
     while i < 8 {
         if end <= i {
             return false;
         }
-        if roots[i] == root {
+        if places[i] == u {
             return true;
         }
         i += 1;
     }
     false
+}
+
+// Whether the branch is among the roots of the input.
+pub fn names(x: Input, b: BranchRoot) -> bool
+    ensures { λ r. ⌜ r ≡ has (b .0) (rootsOf x) ⌝ }
+{
+    let roots = x.roots;
+    let number = x.number;
+    among(roots, number, b.0)
 }
 
 // Whether some input names the branch.
