@@ -1,0 +1,4 @@
+pub mod Answers
+pub mod PathEnd
+pub mod Accepted
+pub mod Fit
