@@ -1,3 +1,5 @@
+pub mod Calls
 pub mod Slots
 pub mod Roots
-pub mod Memtable
+pub mod Flushed
+pub mod Grown

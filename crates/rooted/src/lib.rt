@@ -16,6 +16,7 @@ ghost use Rattle.tables.specs.Hold.{slotIn};
 ghost use Rattle.allocation.specs.Fresh.{freshIn};
 ghost use Rattle.rooted.specs.Memtable.{rootNodeIn, isSealedIn, firstIn, joinedHold};
 ghost use Rattle.rooted.specs.Memtable.{memtableTests, memtableTree, memtableCounts, memtableMap};
+ghost use Rattle.rooted.specs.Grow.{growTests, growTree};
 
 // ---- what both kinds need
 
@@ -137,4 +138,26 @@ pub fn memtable_flush(
     counting::set_root(tree, NodeUnit(root));
     counting::add_place(counts, b);
     join_branch(hold, slot);
+}
+
+// ---- 5 grow
+
+pub fn grow_tests(tree: &[u8; 6656], map: &[u64; 4], root: u8) -> [bool; 9]
+    ensures { λ r. ⌜ r ≡ growTests (now (tree .entry)) (now (map .entry)) root ⌝ }
+{
+    let full = levels::way_of(tree, 8);
+    let fresh = is_fresh(map, root);
+    [true, true, true, true, true, true, !full, fresh, true]
+}
+
+// A node above the old root, with no buffers.
+pub fn grow(tree: &mut [u8; 6656], counts: &mut [u16; 512], map: &mut [u64; 4], root: u8)
+    ensures tree { λ _. ⌜ now (tree .exit) ≡ growTree (now (tree .entry)) root ⌝ }
+    ensures counts { λ _. ⌜ now (counts .exit) ≡ set (now (counts .entry)) root 1 ⌝ }
+    ensures map { λ _. ⌜ now (map .exit) ≡ mark (now (map .entry)) root ⌝ }
+{
+    let old = counting::root(tree);
+    let new = shapes::over(old);
+    add_held(tree, counts, map, NodeUnit(root), new);
+    counting::set_root(tree, NodeUnit(root));
 }

@@ -3,7 +3,6 @@ use borrow.Author.Tests.{eq-eqb, ne-eqb}
 use borrow.Author.Needs.{needs}
 use Rattle.rooted.proofs.is_fresh.Statement.{statement}
 use Rattle.rooted.proofs.is_fresh.Tie as tie
-use Rattle.held_map.proofs.has.Reads as has-reads
 
 returns : tie.Need-returns
 returns c = simp (eq-eqb _ _ (c .if1 .taken))

@@ -2,7 +2,6 @@
 use borrow.Author.Needs.{needs}
 use Rattle.rooted.proofs.is_sealed.Statement.{statement}
 use Rattle.rooted.proofs.is_sealed.Tie as tie
-use Rattle.tables.proofs.read_slot.Reads as read-slot-reads
 
 read-slot-requires : tie.Need-read-slot-requires
 read-slot-requires c κs = search needs

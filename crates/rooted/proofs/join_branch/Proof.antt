@@ -3,10 +3,6 @@ use Rattle.rooted.specs.Memtable.{joinedHold}
 use borrow.Author.Needs.{needs}
 use Rattle.rooted.proofs.join_branch.Statement.{statement}
 use Rattle.rooted.proofs.join_branch.Tie as tie
-use Rattle.rooted.proofs.slot_root.Reads as slot-root-reads
-use Rattle.tables.proofs.empty_slot.Reads as empty-slot-reads
-use Rattle.tables.proofs.read_slot.Reads as read-slot-reads
-use Rattle.tables.proofs.write_branch.Reads as write-branch-reads
 
 slot-root-requires : tie.Need-slot-root-requires
 slot-root-requires c κs = search needs

@@ -1,17 +1,8 @@
 -- `rooted::memtable_flush` meets its contract. Assumes nothing.
-use Rattle.rooted.specs.Memtable.{memtableTree, memtableCounts, memtableMap}
+use Rattle.rooted.proofs.Calls.{memtable-tree, memtable-counts, memtable-map}
 use borrow.Author.Needs.{needs}
 use Rattle.rooted.proofs.memtable_flush.Statement.{statement}
 use Rattle.rooted.proofs.memtable_flush.Tie as tie
-use Rattle.allocation.proofs.let_go.Reads as let-go-reads
-use Rattle.counting.proofs.add_place.Reads as add-place-reads
-use Rattle.counting.proofs.root.Reads as root-reads
-use Rattle.counting.proofs.set_root.Reads as set-root-reads
-use Rattle.rooted.proofs.add_held.Reads as add-held-reads
-use Rattle.rooted.proofs.join_branch.Reads as join-branch-reads
-use Rattle.rooted.proofs.root_node.Reads as root-node-reads
-use Rattle.rooted.proofs.slot_root.Reads as slot-root-reads
-use Rattle.shapes.proofs.with_buffer.Reads as with-buffer-reads
 
 slot-root-requires : tie.Need-slot-root-requires
 slot-root-requires c κs = search needs
@@ -41,8 +32,18 @@ join-branch-requires : tie.Need-join-branch-requires
 join-branch-requires c κs = search needs
 
 returns : tie.Need-returns
-unfolding memtableTree memtableCounts memtableMap
-returns c = (rw (c .before .before .before .before .set-root .ensures, c .before .before .before .before .before .before .let-go .ensures .0, c .before .before .before .before .before .before .before .before .before .before .add-held .ensures .0, c .before .before .before .before .before .before .before .before .before .before .add-held .ensures .1 .0, c .before .before .before .before .before .before .before .before .before .before .before .before .before .before .with-buffer .ensures, c .before .before .before .before .before .before .before .before .before .before .before .before .before .before .before .root-node .ensures, c .before .before .before .before .before .before .before .before .before .before .before .before .before .before .before .before .before .root .ensures, c .before .before .before .before .before .before .before .before .before .before .before .before .before .before .before .before .before .before .before .slot-root .ensures), (rw (c .before .before .add-place .ensures, c .before .before .before .before .before .before .let-go .ensures .1 .0, c .before .before .before .before .before .before .before .before .before .before .add-held .ensures .1 .0, c .before .before .before .before .before .before .before .before .before .before .before .before .before .before .before .before .before .root .ensures, c .before .before .before .before .before .before .before .before .before .before .before .before .before .before .before .before .before .before .before .slot-root .ensures), (c .join-branch .ensures, rw (c .before .before .before .before .before .before .let-go .ensures .1 .1, c .before .before .before .before .before .before .before .before .before .before .add-held .ensures .1 .1, c .before .before .before .before .before .before .before .before .before .before .add-held .ensures .1 .0, c .before .before .before .before .before .before .before .before .before .before .before .before .before .before .before .before .before .root .ensures))))
+returns c =
+    let A = c .before .before .before .before .before .before .before .before .before .before .before .before .before .before .before .before .before .before .before .before .before .args in
+    let b = c .before .before .before .before .before .before .before .before .before .before .before .before .before .before .before .before .before .before .before .slot-root .ensures in
+    let old = c .before .before .before .before .before .before .before .before .before .before .before .before .before .before .before .before .before .root .ensures in
+    let held = c .before .before .before .before .before .before .before .before .before .before .add-held .ensures in
+    let gone = c .before .before .before .before .before .before .let-go .ensures in (
+      memtable-tree (A .tree .now) (A .counts .now) (A .hold .now) (A .slot) (A .root) b old (c .before .before .before .before .before .before .before .before .before .before .before .before .before .before .before .root-node .ensures) (c .before .before .before .before .before .before .before .before .before .before .before .before .before .before .with-buffer .ensures) (held .0) (held .1 .0) (gone .0) (c .before .before .before .before .set-root .ensures),
+      (
+        memtable-counts (A .tree .now) (A .counts .now) (A .hold .now) (A .slot) (A .root) b old (held .1 .0) (gone .1 .0) (c .before .before .add-place .ensures),
+        (c .join-branch .ensures, memtable-map (A .tree .now) (A .counts .now) (A .map .now) (A .root) old (held .1 .0) (held .1 .1) (gone .1 .1)),
+      ),
+    )
 
 pub memtable-flush-spec : {M : Type 1} → statement M
 memtable-flush-spec =

@@ -3,11 +3,6 @@ use Rattle.rooted.specs.Memtable.{memtableTests}
 use borrow.Author.Needs.{needs}
 use Rattle.rooted.proofs.memtable_tests.Statement.{statement}
 use Rattle.rooted.proofs.memtable_tests.Tie as tie
-use Rattle.rooted.proofs.is_fresh.Reads as is-fresh-reads
-use Rattle.rooted.proofs.is_sealed.Reads as is-sealed-reads
-use Rattle.rooted.proofs.root_node.Reads as root-node-reads
-use Rattle.rooted.proofs.slot_exists.Reads as slot-exists-reads
-use Rattle.shapes.proofs.room_for_buffer.Reads as room-for-buffer-reads
 
 slot-exists-requires : tie.Need-slot-exists-requires
 slot-exists-requires c κs = search needs

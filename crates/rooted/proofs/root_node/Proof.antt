@@ -4,9 +4,6 @@ use borrow.Author.Tests.{eq-eqb, ne-eqb}
 use borrow.Author.Needs.{needs}
 use Rattle.rooted.proofs.root_node.Statement.{statement}
 use Rattle.rooted.proofs.root_node.Tie as tie
-use Rattle.counting.proofs.read_node.Reads as read-node-reads
-use Rattle.counting.proofs.root.Reads as root-reads
-use Rattle.shapes.proofs.over.Reads as over-reads
 
 root-requires : tie.Need-root-requires
 root-requires c κs = search needs

@@ -3,7 +3,6 @@ use Rattle.rooted.specs.Memtable.{firstIn}
 use borrow.Author.Needs.{needs}
 use Rattle.rooted.proofs.slot_root.Statement.{statement}
 use Rattle.rooted.proofs.slot_root.Tie as tie
-use Rattle.tables.proofs.read_slot.Reads as read-slot-reads
 
 read-slot-requires : tie.Need-read-slot-requires
 read-slot-requires c κs = search needs
