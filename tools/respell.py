@@ -10,6 +10,7 @@ import sys
 
 DECLARED = re.compile(
     r"^(\s*)((?:abbrev |unfoldable |pub )*)([^\s:(){}.]+)((?:\s+\([^)]*\)|\s+\{[^}]*\})*)\s*:\s")
+CONSTRUCTORS = re.compile(r"^  ((?:[^\s:(){}.]+ )+):\s")
 TOKEN = re.compile(r"[^\s(){}.;,]+")
 WORD = re.compile(r"[A-Za-z][\w'-]*")
 KEYWORDS = {"use", "let", "in", "record", "data", "where", "module", "elim", "as"}
@@ -56,6 +57,9 @@ def plan(texts, crates):
                 inside = True
             elif line and not line.startswith(" "):
                 inside = False
+            for name in (CONSTRUCTORS.match(line) or [None, ""])[1].split():
+                if re.fullmatch(r"[a-z]\w*", name):
+                    declared.add(name)
             m = DECLARED.match(line)
             if m and m.group(3) not in KEYWORDS:
                 declared.add(m.group(3))
@@ -95,7 +99,9 @@ def turned(text, names, fields, kept, token=TOKEN, aliases=()):
         if new is None or word in kept:
             continue
         before = text[:m.start()]
-        if before.endswith(".") and word not in fields and not (aliases and re.search(r"(?<![\w.])(?:" + "|".join(aliases) + r")\.$", before)):
+        if before.endswith(".") and word not in fields and not (
+                re.search(r"(?<![\w.])Rattle\.\w+\.(?:specs|proofs)\.(?:\w+\.)+$", before) and text[m.end():m.end() + 1] != ".") and not (
+                aliases and re.search(r"(?<![\w.])(?:" + "|".join(aliases) + r")\.$", before)):
             continue
         out.append(text[last:m.start()])
         out.append(new)
@@ -106,10 +112,13 @@ def turned(text, names, fields, kept, token=TOKEN, aliases=()):
 
 def source(text, names, fields, kept):
     """Of a .rt file, the imports and the clauses: lines that begin a clause or follow one up to the body, and `ghost use`."""
-    lines, clause = [], False
+    lines, clause, listing = [], False, False
     for line in text.split("\n"):
         bare = line.strip()
-        if re.match(r"ghost use |(requires|ensures)\b", bare):
+        if listing or (bare.startswith("ghost use ") and bare.endswith("{")):
+            listing = not bare.startswith("}")
+            line = turned(line, names, fields, kept)
+        elif re.match(r"ghost use |(requires|ensures)\b", bare):
             clause = not bare.startswith("ghost use")
             line = turned(line, names, fields, kept)
         elif bare.startswith("{") or bare.endswith("{"):

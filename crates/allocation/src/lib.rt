@@ -1,5 +1,7 @@
 // What the ten steps share above counting: ways that go and the units that become free with them, units that come to be held, the test
 // that units are fresh, the test of the counts after a step, and the sweep of dead branches. Every function is right on any arrays.
+#![tactic(auto)]
+
 ghost use Rattle.std.specs.Prelude.{not, ◌≡◌, ◌+◌, ◌-◌, ◌<◌, eqb, leb};
 ghost use Rattle.units.specs.Limits.{most_count};
 ghost use Rattle.ways.specs.Ways.{one};

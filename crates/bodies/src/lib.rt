@@ -1,4 +1,6 @@
 // The parts of a record's body that name a path: line 4 of its shape, its used part, and the node that it leads to from the root.
+#![tactic(auto)]
+
 ghost use Rattle.std.specs.Prelude.{◌≡◌, [], ◌≤◌, ◌<◌, length};
 ghost use Rattle.units.specs.Bodies.{indexes};
 ghost use Rattle.rules.specs.Tables.{all, zeros};

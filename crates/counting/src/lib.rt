@@ -1,5 +1,7 @@
 // The tree in the lent arrays: node u stands at u * 26 of `tree`, whose first byte is the root; `counts` has the ways to node u at u
 // and the places of branch b in the buffers at 256 + b. On arrays that are not right every function still ends within bounds.
+#![tactic(auto)]
+
 ghost use Rattle.std.specs.Prelude.{◌≤◌, ◌+◌, ◌-◌, ◌≡◌, get_or, set};
 ghost use Rattle.units.specs.Limits.{room};
 ghost use Rattle.rules.specs.Tables.{slice};
@@ -17,7 +19,7 @@ const PLACES: usize = 256;
 
 // ---- nodes
 
-#[derive(Drop)]
+#[derive(Clone, Copy)]
 pub struct Node {
     pub buffer_number: u8,
     pub buffers: [u8; 8],

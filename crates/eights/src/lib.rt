@@ -1,5 +1,7 @@
 // Eight places by value, as a node or an input has them: a run of them replaced, each of them mapped, the first of them tested.
 // The places that are not used are 0.
+#![tactic(auto)]
+
 ghost use Rattle.std.specs.Prelude.{◌+◌, ◌-◌, ◌<◌, ◌≤◌, ◌≡◌, [], ◌∷◌, map, leb, get_or, take};
 ghost use Rattle.records.specs.Rows.{eight};
 ghost use Rattle.rules.specs.Tables.{all, eqs};

@@ -194,7 +194,7 @@ module _ (s : Store) (r : Right s) (x : Arrays) (st : Stands s x) (b : List ℕ)
           new (drop offset n.buffers) (take gc n.buffers)
           (λ v. ends_move s v p q s.root f ends (t ∷ h ∷ []) (drop offset n.buffers) (take gc n.buffers) even
           (omega (arith, cut v, sums_append (is v) m.buffers (drop offset n.buffers))))
-          (λ v o. buffer_unit s r.sound t v (Rattle.right.proofs.Lists.has-drop v offset n.buffers o))
+          (λ v o. buffer_unit s r.sound t v (Rattle.right.proofs.Lists.has_drop v offset n.buffers o))
 
   pub flush_agree : Agree (flush_tests x.tree x.counts x.map b) (tests_of s (change s (flush_step b)))
   unfolding change flush_tests

@@ -1,5 +1,7 @@
 // Kind 7, flush: the child at a place of the path's target gains the target's buffers from its offset on, and the target's first buffers
 // go. The body has 19 bytes: depth, seven indexes, seven fresh units, child, number of buffers that go, units of parent and new child.
+#![tactic(auto)]
+
 ghost use Rattle.std.specs.Prelude.{◌≡◌, length, get_or};
 ghost use Rattle.flushing.specs.Flush.{flush_tests, flush_tree, flush_counts, flush_hold, flush_map};
 

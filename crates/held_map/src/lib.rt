@@ -1,4 +1,6 @@
 // The map of held units: unit u is bit u % 64 of word u / 64. Every function is right on any four words.
+#![tactic(auto)]
+
 ghost use Rattle.std.specs.Prelude.{◌<◌, ◌≤◌, ◌+◌, ◌^◌, ◌≡◌, ◌++◌, length, drop};
 ghost use Rattle.std.specs.Int.Count.{ones, count_trailing_zeros};
 ghost use Rattle.held_map.specs.Bits.{is_set, with_bit, without_bit, Less, LowestZero};

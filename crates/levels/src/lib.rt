@@ -1,5 +1,7 @@
 // Is there a way of so many nodes down from a unit? By sets of units, one map for each level, never a walk of all ways. True of every
 // tree, right or not.
+#![tactic(auto)]
+
 ghost use Rattle.std.specs.Prelude.{◌≤◌, ◌-◌, ◌≡◌, not, eqb, get_or};
 ghost use Rattle.ways.specs.Ways.{sums, deep, flat};
 ghost use Rattle.rules.specs.Store.{root_list};

@@ -1,4 +1,6 @@
 // The table of refusals as numbers, 0 for none: the lines 1 to 3 of any record, and the first of the lines 4 to 12 that applies.
+#![tactic(auto)]
+
 ghost use Rattle.std.specs.Prelude.{◌≡◌, ◌+◌, length};
 ghost use Rattle.lines.specs.Lines.{head_of, first_of, numbered};
 

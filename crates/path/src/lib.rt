@@ -1,5 +1,7 @@
 // A path down the tree: the node that it leads to, the nodes on it, and its copy. An index is a place among a node's children; on
 // arrays that are not right every function still ends within bounds.
+#![tactic(auto)]
+
 ghost use Rattle.std.specs.Prelude.{◌≤◌, ◌≡◌, ltb, length, get_or, take};
 ghost use Rattle.units.specs.Bodies.{indexes};
 ghost use Rattle.ways.specs.Ways.{spine};
@@ -48,7 +50,7 @@ pub fn with_child(n: Node, i: u8, c: NodeUnit) -> Node
 
 // ---- a path
 
-#[derive(Drop)]
+#[derive(Clone, Copy)]
 pub enum Found {
     At(NodeUnit),
     Nowhere,

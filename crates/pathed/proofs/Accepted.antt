@@ -154,7 +154,7 @@ module _ (s : Store) (r : Right s) (m : Step) (ev : Even m) (s' : Store) (e : de
   unfolding spine_in
   going_is =
       ap₂ (λ (l : List ℕ) (t : ℕ). going l t h)
-      (ap (λ (u : ℕ). eight (spine (Rattle.path.specs.Graph.eightIn tree) (take indexes p) u)) root_at
+      (ap (λ (u : ℕ). eight (spine (Rattle.path.specs.Graph.eight_in tree) (take indexes p) u)) root_at
       ∙ spine_is s tree st.tree r.sound p s.root (root_named s r.sound at.full) at.way (omega (arith, at.near)))
       (target_unit_lem s r.sound tree st.tree p way)
 

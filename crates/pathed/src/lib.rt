@@ -1,5 +1,7 @@
 // What the steps that copy a path share: the nodes at the path's end, the test of the fresh units, the copies that come, and the ways
 // that go. On arrays that are not right every function still ends within bounds.
+#![tactic(auto)]
+
 ghost use Rattle.std.specs.Prelude.{◌&&◌, ◌++◌, ◌≡◌, length, get_or, set, take};
 ghost use Rattle.rules.specs.Steps.{is_index};
 ghost use Rattle.counting.specs.Change.{drop_trees, drop_counts, add_counts};
@@ -29,7 +31,7 @@ pub fn is_index(i: u8) -> bool
 // ---- the path's end
 
 // The target, the child at a place of it, and whether they are there. What is not there is read at unit 0.
-#[derive(Drop)]
+#[derive(Clone, Copy)]
 pub struct Ends {
     pub leads: bool,
     pub leads_to: bool,
@@ -75,7 +77,7 @@ pub fn fresh_units(map: &[u64; 4], path: &[u8], new: &[u8]) -> bool
 // ---- nodes that come and ways that go
 
 // The nodes on the path as they were, and the topmost copy.
-#[derive(Drop)]
+#[derive(Clone, Copy)]
 pub struct Copied {
     pub spine: [u8; 8],
     pub top: NodeUnit,

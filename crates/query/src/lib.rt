@@ -1,4 +1,6 @@
 // Who owns a unit, and how many units are held, read from the lent arrays.
+#![tactic(auto)]
+
 ghost use Rattle.std.specs.Prelude.{◌≡◌};
 ghost use Rattle.held_map.specs.Map.{held_number};
 ghost use Rattle.query.specs.Owners.{in_branch, in_slot, branch_with, slot_with, query_in};
@@ -6,7 +8,7 @@ ghost use Rattle.query.specs.Owners.{in_branch, in_slot, branch_with, slot_with,
 use units::{BranchRoot, NodeUnit, UnfinishedSlot};
 
 // A node with its count, a branch with its root and its count, a slot with its number.
-#[derive(Drop)]
+#[derive(Clone, Copy)]
 pub enum Owner {
     Reserved,
     Free,

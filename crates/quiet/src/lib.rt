@@ -1,5 +1,7 @@
 // The kinds of step that leave the tree as it is: 1 take, 2 seal, 3 abandon, 8 compact begin, 10 compact abort. For each its tests of the
 // lines 4 to 12, and the accepted step. Every function is right on any arrays.
+#![tactic(auto)]
+
 ghost use Rattle.std.specs.Prelude.{◌≡◌, ◌&&◌, [], ◌∷◌, length};
 ghost use Rattle.units.specs.Bodies.{body_length};
 ghost use Rattle.held_map.specs.Map.{mark};

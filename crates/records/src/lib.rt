@@ -1,4 +1,6 @@
 // A record is a run of bytes at a place of a lent array: read eight bytes at a time, stored by one loop for every length.
+#![tactic(auto)]
+
 ghost use Rattle.std.specs.Prelude.{◌≤◌, ◌+◌, ◌≡◌, length};
 ghost use Rattle.units.specs.Limits.{room};
 ghost use Rattle.records.specs.Rows.{eight_at, poured, AllBytes};

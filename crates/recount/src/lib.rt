@@ -1,5 +1,7 @@
 // The counts of every node and branch, by a walk of all ways: a node, then its list of children, which visits nodes again. True of
 // every tree, right or not: the depth bounds the walk.
+#![tactic(auto)]
+
 ghost use Rattle.std.specs.Prelude.{◌<◌, List, [], ◌∷◌, take};
 ghost use Rattle.ways.specs.Ways.{visits, flat};
 ghost use Rattle.counting.specs.Graph.{children_in};
@@ -15,7 +17,7 @@ const PLACES: usize = 256;
 const LONGEST: u8 = 8;
 
 // Over: some count would pass 65,535, and then the counts are of no use.
-#[derive(Drop)]
+#[derive(Clone, Copy)]
 pub enum Walk {
     Done,
     Over,

@@ -1,5 +1,7 @@
 // Kinds 4 and 5, memtable flush and grow: a new root. Each kind has its tests, the lines 4 to 12 of the table in their order, and the step
 // that is carried out where all of them pass. Every function is right on any arrays.
+#![tactic(auto)]
+
 ghost use Rattle.std.specs.Prelude.{◌≡◌, [], ◌∷◌, eqb, get_or, set};
 ghost use Rattle.rules.specs.Steps.{is_slot};
 ghost use Rattle.held_map.specs.Map.{mark};

@@ -9,7 +9,7 @@ use Rattle.rules.specs.Steps.{Outcome, accepted, refused, step_in}
 use Rattle.rules.specs.Images.{image}
 use Rattle.rules.specs.Loads.{load}
 use Rattle.rules.specs.Query.{Owner, reserved, free, a_node, a_branch, a_slot, owner_numbers, query}
-use Rattle.rules.specs.Voyage.{Says, ok, no, Voyage, port, sail, nodeCounts, branchCounts, shows, runs, zs, leaf_image, unit_image, image2, image10}
+use Rattle.rules.specs.Voyage.{Says, ok, no, Voyage, port, sail, node_counts, branch_counts, shows, runs, zs, leaf_image, unit_image, image2, image10}
 
 abbrev refusal : Outcome → ℕ
 refusal (accepted s) = 0
@@ -57,7 +57,7 @@ offsets_move =
     (sail (at_root 7 (0 ∷ 1 ∷ 7 ∷ 8 ∷ [])) (ok (1 ∷ []))
     (shows 7 (node (4 ∷ 5 ∷ []) (8 ∷ 2 ∷ 2 ∷ 2 ∷ []) (2 ∷ 0 ∷ 1 ∷ 2 ∷ []))
     (shows 8 (node (3 ∷ 4 ∷ 5 ∷ []) [] [])
-    (nodeCounts ((2, 3) ∷ []) (branchCounts ((3, 1) ∷ (4, 2) ∷ (5, 2) ∷ []) port))))))
+    (node_counts ((2, 3) ∷ []) (branch_counts ((3, 1) ∷ (4, 2) ∷ (5, 2) ∷ []) port))))))
     -- split of an inner child by a share of 1, a level down: each half keeps its children's offsets
     && runs (store 10 ((10, node [] (1 ∷ []) (0 ∷ [])) ∷ (1, node (3 ∷ []) (2 ∷ 2 ∷ []) (0 ∷ 1 ∷ [])) ∷ (2, node [] [] []) ∷ []) (3 ∷ []) empty)
     (sail (at_root 6 (0 ∷ 2 ∷ 7 ∷ 8 ∷ 9 ∷ [])) (no 7)
@@ -126,11 +126,11 @@ chain =
 unfoldable pub chain_counts : Bool
 chain_counts =
     runs chain
-    (nodeCounts ((6, 32768) ∷ []) (branchCounts ((7, 65535) ∷ [])
+    (node_counts ((6, 32768) ∷ []) (branch_counts ((7, 65535) ∷ [])
     (sail (at_root 7 (0 ∷ 0 ∷ 0 ∷ 9 ∷ [])) (no 11)
     (sail (at_root 7 (0 ∷ 0 ∷ 8 ∷ 9 ∷ [])) (no 12)
     (sail (at_root 7 (0 ∷ 1 ∷ 8 ∷ 9 ∷ [])) (ok (1 ∷ []))
-    (branchCounts ((7, 65535) ∷ []) port))))))
+    (branch_counts ((7, 65535) ∷ []) port))))))
 
 -- ---- queries
 

@@ -18,7 +18,7 @@ pub data Says : Type 0 where
 pub data Voyage : Type 0 where
   port : Voyage
   sail : List ℕ → Says → Voyage → Voyage
-  nodeCounts branchCounts : List (ℕ × ℕ) → Voyage → Voyage
+  node_counts branch_counts : List (ℕ × ℕ) → Voyage → Voyage
   shows : ℕ → Node → Voyage → Voyage
   number : ℕ → Voyage → Voyage
   looks : List ℕ → Voyage → Voyage
@@ -36,8 +36,8 @@ alike n m = eqs n.buffers m.buffers && (eqs n.children m.children && eqs n.offse
 unfoldable pub runs : Store → Voyage → Bool
 runs s port = true
 runs s (sail r a v) = told s (step_in s last_unit r) a (λ s'. runs s' v)
-runs s (nodeCounts cs v) = all (λ e. eqb (ways s e.0) e.1) cs && runs s v
-runs s (branchCounts cs v) = all (λ e. eqb (places s e.0) e.1) cs && runs s v
+runs s (node_counts cs v) = all (λ e. eqb (ways s e.0) e.1) cs && runs s v
+runs s (branch_counts cs v) = all (λ e. eqb (places s e.0) e.1) cs && runs s v
 runs s (shows u n v) = alike (node_at s u) n && runs s v
 runs s (number n v) = eqb (length (held_units s)) n && runs s v
 runs s (looks b v) = eqs (image s) b && runs s v
@@ -87,14 +87,14 @@ cases =
     -- 5: gc 2, then gc 1
     (sail (7 ∷ (zs 15 ++ (0 ∷ 2 ∷ 12 ∷ 13 ∷ []))) (no 7)
     (sail (7 ∷ (zs 15 ++ (0 ∷ 1 ∷ 12 ∷ 13 ∷ []))) (ok (9 ∷ 11 ∷ []))
-    (shows 13 (record { buffers = 5 ∷ 6 ∷ []; children = []; offsets = [] }) (branchCounts ((5, 1) ∷ (6, 1) ∷ [])
+    (shows 13 (record { buffers = 5 ∷ 6 ∷ []; children = []; offsets = [] }) (branch_counts ((5, 1) ∷ (6, 1) ∷ [])
     -- 6
     (sail (6 ∷ (zs 15 ++ (0 ∷ 0 ∷ 14 ∷ 15 ∷ 16 ∷ []))) (ok (12 ∷ 13 ∷ []))
-    (branchCounts ((5, 2) ∷ (6, 2) ∷ [])
+    (branch_counts ((5, 2) ∷ (6, 2) ∷ [])
     -- 7
     (sail (begin 0 0) (ok [])
     (branch 7 (sail (commit 0 17 18) (ok (14 ∷ 15 ∷ []))
-    (branchCounts ((5, 1) ∷ (6, 1) ∷ [])
+    (branch_counts ((5, 1) ∷ (6, 1) ∷ [])
     -- 8, with a second compactor and without
     (sail (begin 0 1) (ok [])
     (branch 8
@@ -110,9 +110,9 @@ image10 = 32 ∷ 1 ∷ 33 ∷ 1 ∷ 0 ∷ (zs 8 ++ (2 ∷ 2 ∷ 2 ∷ (zs 14 ++ 
 
 unfoldable pub case10 : Voyage
 case10 =
-    nodeCounts ((1, 1) ∷ (2, 2) ∷ []) (branchCounts ((3, 2) ∷ [])
+    node_counts ((1, 1) ∷ (2, 2) ∷ []) (branch_counts ((3, 2) ∷ [])
     (sail (6 ∷ (zs 15 ++ (0 ∷ 0 ∷ 4 ∷ 5 ∷ 6 ∷ []))) (ok (1 ∷ []))
-    (nodeCounts ((2, 1) ∷ []) (branchCounts ((3, 3) ∷ []) port))))
+    (node_counts ((2, 1) ∷ []) (branch_counts ((3, 3) ∷ []) port))))
 
 -- document 01's starred cases
 unfoldable pub starred_cases : Bool

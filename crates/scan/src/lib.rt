@@ -1,4 +1,6 @@
 // Line 21 of a load: the bytes are laid out rightly. They are read by positions, section by section.
+#![tactic(auto)]
+
 ghost use Rattle.std.specs.Prelude.{ℕ, ◌<◌, ◌≤◌, ◌+◌, ◌*◌, ◌≡◌, eqb, leb, length, get_or, true};
 ghost use Rattle.rules.specs.Tables.{all};
 ghost use Rattle.images.specs.Passes.{run_of, used_at, blanked_at, node_laid_at, branch_laid_at, slot_laid_at, input_laid_at, laid_at, size_of, section_ok};

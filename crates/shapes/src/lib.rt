@@ -1,28 +1,30 @@
 // The nodes that the steps 4 to 9 make, and what those steps ask of the nodes that stand: each node by value, no array of the state.
 // On nodes that are not right every function still ends within bounds.
+#![tactic(auto)]
+
 ghost use Rattle.std.specs.Prelude.{◌≡◌, get_or};
 ghost use Rattle.counting.specs.Nodes.{coded};
 ghost use Rattle.shapes.specs.Ends.{over_root};
 ghost use Rattle.shapes.specs.Shapes.{
-  replaceBuffers,
-  replaceChildren,
-  withBuffer,
-  withChild,
-  splitParent,
+  replace_buffers,
+  replace_children,
+  with_buffer,
+  with_child,
+  split_parent,
   left_of,
-  rightOf,
-  flushParent,
-  flushChild,
-  commitNode,
+  right_of,
+  flush_parent,
+  flush_child,
+  commit_node,
 };
 ghost use Rattle.shapes.specs.Questions.{
-  splitShareFits,
-  gcFits,
-  partFits,
-  partIs,
-  roomForBuffer,
-  roomForChild,
-  flushRoom,
+  split_share_fits,
+  gc_fits,
+  part_fits,
+  part_is,
+  room_for_buffer,
+  room_for_child,
+  flush_room,
 };
 
 use counting::Node;

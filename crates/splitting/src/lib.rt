@@ -1,5 +1,7 @@
 // Kind 6, split: the child at a place of the path's target becomes two nodes, left with the first of its children and right with the
 // others. The body has 20 bytes: depth, seven indexes, seven fresh units, child, share, and the units of parent, left and right.
+#![tactic(auto)]
+
 ghost use Rattle.std.specs.Prelude.{◌≡◌, length};
 ghost use Rattle.splitting.specs.Split.{split_tests, split_tree, split_counts, split_map};
 

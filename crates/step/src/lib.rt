@@ -1,4 +1,6 @@
 // The empty state, and the answer of a step: how many units it freed, or why it was turned down.
+#![tactic(auto)]
+
 ghost use Rattle.std.specs.Prelude.{◌≡◌, [], ◌∷◌, replicate};
 ghost use Rattle.path.specs.Standing.{tree_length};
 ghost use Rattle.tables.specs.Hold.{hold_length};
@@ -8,7 +10,7 @@ ghost use Rattle.step.specs.Answers.{refusal_of};
 
 use units::Refusal;
 
-#[derive(Drop)]
+#[derive(Clone, Copy)]
 pub enum Answer {
     Accepted(u8),
     Refused(Refusal),

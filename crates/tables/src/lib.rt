@@ -1,5 +1,7 @@
 // Branches, unfinished slots and compactors' inputs in the lent array `hold`: branch b at b * 9, slot k at 2304 + k * 10, the input of
 // compactor k at 2344 + k * 9. A slot that does not exist reads as empty, and nothing is stored in it.
+#![tactic(auto)]
+
 ghost use Rattle.std.specs.Prelude.{◌≡◌, [], ◌∷◌, take};
 ghost use Rattle.ways.specs.Ways.{has};
 ghost use Rattle.rules.specs.Store.{empty};
@@ -27,20 +29,20 @@ const OPEN: u8 = 1;
 
 const SEALED: u8 = 2;
 
-#[derive(Drop)]
+#[derive(Clone, Copy)]
 pub struct Branch {
     pub number: u8,
     pub units: [u8; 8],
 }
 
-#[derive(Drop)]
+#[derive(Clone, Copy)]
 pub struct Slot {
     pub state: u8,
     pub number: u8,
     pub units: [u8; 8],
 }
 
-#[derive(Drop)]
+#[derive(Clone, Copy)]
 pub struct Input {
     pub number: u8,
     pub roots: [u8; 8],

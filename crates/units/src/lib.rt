@@ -1,12 +1,14 @@
 // The kinds of number of document 01, each with its limits, the lengths of the records' bodies, and the refusals.
 // A node's unit and a branch's root are different kinds, so that neither can be passed where the other is wanted.
+#![tactic(auto)]
+
 ghost use Rattle.std.specs.Prelude.{◌≡◌, Bool, ◌&&◌, ◌<◌, ◌≤◌, eqb, leb, ltb};
 ghost use Rattle.units.specs.Limits.{last_unit, slot_count, compactor_count, most_count, last_kind};
 ghost use Rattle.units.specs.Bodies.{body_length};
 ghost use Rattle.units.specs.Refusals.{number_of};
 
 // The unit that a node occupies.
-#[derive(Drop)]
+#[derive(Clone, Copy)]
 pub struct NodeUnit(pub u8);
 
 impl NodeUnit {
@@ -35,7 +37,7 @@ impl NodeUnit {
 }
 
 // The first unit of a branch, by which buffers and inputs name it.
-#[derive(Drop)]
+#[derive(Clone, Copy)]
 pub struct BranchRoot(pub u8);
 
 impl BranchRoot {
@@ -64,7 +66,7 @@ impl BranchRoot {
 }
 
 // The number of an unfinished slot.
-#[derive(Drop)]
+#[derive(Clone, Copy)]
 pub struct UnfinishedSlot(pub u8);
 
 impl UnfinishedSlot {
@@ -84,7 +86,7 @@ impl UnfinishedSlot {
 }
 
 // The number of a compactor slot.
-#[derive(Drop)]
+#[derive(Clone, Copy)]
 pub struct CompactorSlot(pub u8);
 
 impl CompactorSlot {
@@ -104,7 +106,7 @@ impl CompactorSlot {
 }
 
 // How often a node or a branch is counted.
-#[derive(Drop)]
+#[derive(Clone, Copy)]
 pub struct Count(pub u16);
 
 impl Count {
@@ -152,7 +154,7 @@ pub fn body_length(kind: u8) -> u8
 }
 
 // Why a step, a writing or a load is turned down.
-#[derive(Drop)]
+#[derive(Clone, Copy)]
 pub enum Refusal {
     ShortList,
     UnknownKind,

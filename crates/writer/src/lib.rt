@@ -1,5 +1,7 @@
 // The image of a state, written record after record at the front of a lent output. A record is put only where it fits, so that arrays
 // that are not right write nothing out of bounds; of a right state every record fits.
+#![tactic(auto)]
+
 ghost use Rattle.std.specs.Prelude.{◌≤◌, ◌+◌, ◌≡◌};
 ghost use Rattle.writer.specs.Records.{node_record, branch_record, slot_record, input_record, node_of, branch_of, slot_of, input_of, record_of, records_of};
 ghost use Rattle.writer.specs.Written.{put_in, wrote, write_in};
@@ -27,7 +29,7 @@ const FIRST_SLOT: u8 = 0;
 const WANTED: usize = 8192;
 
 // The length of the image, or refusal 20.
-#[derive(Drop)]
+#[derive(Clone, Copy)]
 pub enum Written {
     Length(usize),
     Short,
