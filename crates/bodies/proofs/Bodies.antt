@@ -1,28 +1,27 @@
 -- A loop that tests every member, the shape of a path, and the node that it leads to where a sound store stands. Assumes nothing.
-use mathlib.Core.Path.{◌≡◌, refl, sym, ap, ◌∙◌, subst}
+use mathlib.Core.Path.{◌≡◌, refl, sym, ap, ◌∙◌}
 use mathlib.Core.Bool.{Bool, true, false, ◌&&◌, not, cond}
 use mathlib.Core.List.{List, [], ◌∷◌}
 use Prim.Native.Nat.{ℕ, zero, suc, ◌+◌, ◌-◌, ◌≤◌, ◌<◌}
 use native.Mathlib.Omega.{arith}
 use native.Mathlib.Numerals.{add-one}
-use lib.Dec.{T, eqb, leb, ltb}
-use lib.ListN.{length, get_or, take, drop, length-drop, length-take}
+use lib.Dec.{eqb, leb, ltb}
+use lib.ListN.{length, get_or, take, drop, length-drop}
 use lib.Seq.{drop-cons}
-use borrow.Author.Tests.{ltb-false, lt-ltb, le-ltb, lt-leb, le-leb, leb-true, eqb-true, eq-eqb, ne_eqb}
+use borrow.Author.Tests.{ltb-false, lt-leb, le-leb, leb-true}
 use Rattle.units.specs.Bodies.{indexes}
-use Rattle.rules.specs.Tables.{all, zeros, is_some}
+use Rattle.rules.specs.Tables.{all, zeros}
 use Rattle.rules.specs.Store.{Store, children_of}
 use Rattle.rules.specs.Steps.{is_index, path_shape, valid, leads}
 use Rattle.rules.specs.Right.{Sound}
 use Rattle.ways.specs.Ways.{follow}
 use Rattle.right.proofs.Ledger.{root_named}
 use Rattle.counting.specs.Nodes.{root_read}
-use Rattle.path.specs.declared.Found.{Found}
-use Rattle.path.specs.declared.Found.TheVariants.{At, Nowhere}
+use Rattle.path.specs.declared.Found.TheVariants.{Nowhere}
 use Rattle.path.specs.Graph.{found, found_in}
 use Rattle.path.specs.Standing.{TreeIs}
 use Rattle.path.proofs.Paths.{follow_is}
-use Rattle.bodies.specs.Bodies.{used_of, target_in, unit_of, is_found}
+use Rattle.bodies.specs.Bodies.{used_of, target_in}
 
 -- ---- a loop that tests every member: what is left decides
 

@@ -1,7 +1,6 @@
 -- The node that a path leads to in the bytes of the tree. Assumes nothing.
 use Rattle.std.specs.Prelude.{Bool, true, false, cond, List, ℕ, eqb, ltb, get_or}
 use Rattle.units.specs.Bodies.{indexes}
-use Rattle.units.specs.declared.NodeUnit.{NodeUnit}
 use Rattle.path.specs.declared.Found.{Found}
 use Rattle.path.specs.declared.Found.TheVariants.{At, Nowhere}
 use Rattle.path.specs.Graph.{found_in}

@@ -1,8 +1,6 @@
 -- What every change of the tree is made of, on lists: a way to a node goes, and the node with its last way; a node comes, with one way
 -- to it. Assumes nothing.
-use Rattle.std.specs.Prelude.{Bool, cond, ◌&&◌, List, [], ◌∷◌, ℕ, ◌-◌, leb, get_or, set}
-use Rattle.ways.specs.Ways.{has}
-use Rattle.rules.specs.Tables.{times}
+use Rattle.std.specs.Prelude.{Bool, cond, List, [], ◌∷◌, ℕ, ◌-◌, leb, get_or, set}
 use Rattle.counting.specs.Nodes.{put_node, coded, blank_node}
 
 -- f for each member, one after the other

@@ -1,7 +1,7 @@
 -- Pass 21 as a program makes it is document 01's line 21. Assumes nothing.
 use mathlib.Core.Path.{◌≡◌, refl, sym, ap, ap₂, ◌∙◌, subst}
 use mathlib.Core.Bool.{Bool, true, false, ◌||◌, ◌&&◌, not, cond, true≢false}
-use mathlib.Core.Logic.{◌↔◌, ◌⊎◌, ⊎_elim}
+use mathlib.Core.Logic.{◌↔◌, ⊎_elim}
 use mathlib.Core.List.{List, [], ◌∷◌, ◌++◌, map}
 use Prim.Native.Nat.{ℕ, zero, suc, ◌+◌, ◌-◌, ◌*◌, ◌≤◌, ◌<◌}
 use native.Mathlib.Omega.{arith}
@@ -9,13 +9,12 @@ use lib.Dec.{T, eqb, leb, eqb_refl, eqb→eq, leb→le, le→leb}
 use lib.ListN.{length, get_or, take, drop, length-take, length-drop, drop_of_length-le}
 use lib.Seq.{get_or-take, drop-cons, length-take-le}
 use Rattle.rules.specs.Tables.{all, keys, slice, rising}
-use Rattle.rules.specs.Store.{Node, Slot}
 use Rattle.ways.proofs.Tests.{T→eq, eq→T, F→eq, eq→not, and_l, and_r, and_i, or_e}
 use Rattle.right.proofs.Lists.{all_from}
 use Rattle.rules.specs.Loads.{Cut, cut, node_of, node_laid, branch_of, branch_laid, slot_of, slot_laid, input_of, input_laid, every, lines, laid}
 use Rattle.images.specs.Passes.{run_of, records_at, used_at, blanked_at, size_of, cut_at, node_laid_at, branch_laid_at, slot_laid_at, input_laid_at, next_key, laid_at, next_at, section_ok, n33, p34, n34, p35, n35, p36, n36, end, layout_lines, layout_at}
 use Rattle.images.proofs.Loaded.{nth}
-use Rattle.images.proofs.Stored.{each, every_of}
+use Rattle.images.proofs.Stored.{every_of}
 use Rattle.images.proofs.Passes.{cut_at_lem, records_more, whole_records, byte_at, node_laid_at_lem, branch_laid_at_lem, slot_laid_at_lem, input_laid_at_lem, all_more, map_more, keys_more, rising_more, next_more, test_no}
 use Rattle.ways.proofs.Tests.{iff_eq}
 

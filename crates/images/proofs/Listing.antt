@@ -1,12 +1,12 @@
 -- Tables and their lists of entries in rising order; cutting a list into records. Nothing of stores. Assumes nothing.
 use mathlib.Core.Path.{◌≡◌, refl, sym, ap, ap₂, ◌∙◌, subst}
-use mathlib.Core.Bool.{Bool, true, false, ◌||◌, ◌&&◌, not, cond}
+use mathlib.Core.Bool.{Bool, true, false, ◌&&◌, cond}
 use mathlib.Core.Logic.{◌⊎◌, inl, inr, ⊎_elim}
 use mathlib.Core.List.{List, [], ◌∷◌, ◌++◌, map, append_assoc}
 use mathlib.Core.Option.{Option, none, some}
-use Prim.Native.Nat.{ℕ, zero, suc, ◌+◌, ◌-◌, ◌≤◌, ◌<◌}
+use Prim.Native.Nat.{ℕ, zero, suc, ◌+◌, ◌≤◌, ◌<◌}
 use native.Mathlib.Omega.{arith}
-use lib.Dec.{T, eqb, leb, ltb, eqb_refl, eqb→eq, leb→le, le→leb, ltb→lt, lt→ltb}
+use lib.Dec.{T, eqb, leb, ltb, eqb_refl, eqb→eq, leb→le, le→leb, ltb→lt}
 use lib.ListN.{length, get_or, take, drop, length-append, take-append-drop, get_or-append}
 use lib.Seq.{take_at, drop_at, get_or-take}
 use Rattle.ways.specs.Ways.{flat, has}

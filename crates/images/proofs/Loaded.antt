@@ -1,31 +1,31 @@
 -- What is accepted is right, and is what the writer writes for it. Assumes nothing.
 use mathlib.Core.Path.{◌≡◌, refl, sym, ap, ap₂, ◌∙◌, subst}
-use mathlib.Core.Bool.{Bool, true, false, ◌||◌, ◌&&◌, not, cond}
-use mathlib.Core.Logic.{◌⊎◌, inl, inr, ⊎_elim}
-use mathlib.Core.List.{List, [], ◌∷◌, ◌++◌, map, append_assoc, append-nil}
+use mathlib.Core.Bool.{Bool, true, false, ◌||◌, ◌&&◌, cond}
+use mathlib.Core.Logic.{⊎_elim}
+use mathlib.Core.List.{List, [], ◌∷◌, ◌++◌, map, append-nil}
 use mathlib.Core.Option.{Option, none, some}
-use Prim.Native.Nat.{ℕ, zero, suc, ◌+◌, ◌-◌, ◌≤◌, ◌<◌}
+use Prim.Native.Nat.{ℕ, zero, suc, ◌+◌, ◌≤◌, ◌<◌}
 use native.Mathlib.Omega.{arith}
 use lib.Dec.{T, eqb, leb, ltb, eqb_refl, eqb→eq, leb→le, le→leb, ltb→lt, lt→ltb}
-use lib.ListN.{length, get_or, take, drop, length-append, take-append-drop, length-take, length-drop}
-use lib.Seq.{get_or-take, get_or-drop, length-take-le}
+use lib.ListN.{length, get_or, take, drop, take-append-drop}
+use lib.Seq.{get_or-take, get_or-drop}
 use Rattle.units.specs.Limits.{slot_count}
-use Rattle.ways.specs.Ways.{sums, deep, is, flat, has}
+use Rattle.ways.specs.Ways.{sums, deep, flat, has}
 use Rattle.rules.specs.Tables.{all, keys, range, times, joined, is_some, or_else, distinct, slice, rising, find}
-use Rattle.rules.specs.Store.{units, Node, Slot, empty, opened, sealed, Store, children_of, units_of, slot_units, root_list, roots, owned, places, ways, reached, alive, in_use}
+use Rattle.rules.specs.Store.{units, Node, Slot, empty, opened, sealed, Store, children_of, units_of, slot_units, roots, owned, places, ways, reached, alive, in_use}
 use Rattle.right.specs.Ledger.{node_units}
-use Rattle.rules.specs.Steps.{Outcome, accepted, refused, need}
-use Rattle.rules.specs.Images.{padded, node_image, branch_image, slot_image, slot_images, input_images, image}
+use Rattle.rules.specs.Steps.{accepted}
+use Rattle.rules.specs.Images.{node_image, branch_image, slot_image, slot_images, input_images, image}
 use Rattle.rules.specs.Right.{NodeOk, BranchOk, slot_ok, Sound, Right}
-use Rattle.ways.proofs.Tests.{T→eq, eq→T, F→eq, eq→not, and_l, and_r, and_i, or_e, or_l, or_r, same?}
-use Rattle.ways.proofs.Members.{has_pos, pos_has, has_left, has_right, has_append}
+use Rattle.ways.proofs.Tests.{eq→T, and_l, and_r, and_i, or_e, or_l, or_r}
+use Rattle.ways.proofs.Members.{has_left, has_right}
 use Rattle.right.proofs.Tables.{all_in, distinct_once}
-use Rattle.right.proofs.Lists.{all_right, all_get, all_from}
+use Rattle.right.proofs.Lists.{all_right, all_get}
 use Rattle.right.proofs.Ledger.{has_at, some_of_lem}
 use Rattle.right.proofs.Prune.{not_seen}
 use Rattle.right.proofs.Steps.{need_ok}
 use Rattle.rules.specs.Loads.{Cutting, Cut, leading, cut, used, blanked, node_of, node_laid, node_count, branch_of, branch_laid, branch_count, slot_of, slot_laid, input_of, input_laid, nodes_in, branches_in, slots_in, inputs_in, built, every, lines, is_node, is_branch, names, laid, claims, owned_once, named, shallow, countable, all_held, counts_agree, judge, load}
-use Rattle.images.proofs.Listing.{all_and, to_map, of_map, to_keys, of_keys, entries, flat_entries, entries_find, found, key_found, joint, lead_joint, lead_heads}
+use Rattle.images.proofs.Listing.{all_and, to_map, entries, flat_entries, entries_find, found, joint, lead_joint, lead_heads}
 use Rattle.images.proofs.Record.{spelled, Again, again, node_again, branch_again, slot_again, input_image, input_again}
 
 -- ---- tests

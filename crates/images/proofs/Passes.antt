@@ -2,26 +2,23 @@
 -- built up record by record, levels as sets. Assumes nothing.
 use mathlib.Core.Path.{◌≡◌, refl, sym, ap, ap₂, ◌∙◌, subst, fun_ext}
 use mathlib.Core.Bool.{Bool, true, false, ◌||◌, ◌&&◌, not, cond, true≢false}
-use mathlib.Core.Logic.{◌⊎◌, inl, inr, ⊎_elim, ◌↔◌}
+use mathlib.Core.Logic.{◌⊎◌, inl, inr, ⊎_elim}
 use mathlib.Core.List.{List, [], ◌∷◌, ◌++◌, map, append_assoc, append-nil}
 use mathlib.Core.Option.{Option, none, some}
 use Prim.Native.Nat.{ℕ, zero, suc, ◌+◌, ◌-◌, ◌*◌, ◌≤◌, ◌<◌}
 use native.Mathlib.Omega.{arith}
 use lib.Dec.{T, eqb, leb, ltb, eqb_refl, eqb→eq, leb→le, le→leb, ltb→lt, nltb→le}
 use borrow.Author.Tests.{lt-ltb, le-ltb}
-use lib.ListN.{length, get_or, take, drop, length-append, length-take, length-drop, drop_of_length-le, get_or-eq_default}
+use lib.ListN.{length, get_or, take, drop, length-take, length-drop, drop_of_length-le, get_or-eq_default}
 use lib.Seq.{get_or-take, get_or-drop, take-take, drop-drop, drop-cons}
 use Rattle.units.specs.Limits.{slot_count, compactor_count}
-use Rattle.ways.specs.Ways.{sums, walk, deep, nothing, flat, has}
-use Rattle.rules.specs.Tables.{all, put, puts, keys, joined, is_some, distinct, zeros, slice, rising, find}
-use Rattle.rules.specs.Store.{Node, Slot, opened, sealed}
-use Rattle.ways.proofs.Frame.{sums_flat, sums_cong}
-use Rattle.ways.proofs.Tests.{T→eq, eq→T, F→eq, eq→not, and_l, and_r, and_i, or_e, or_l, or_r, same?}
-use Rattle.ways.proofs.Members.{has_append, has_left, has_right}
-use Rattle.right.proofs.Tables.{put_same, put_other, puts_other}
-use Rattle.rules.specs.Loads.{Cutting, Cut, leading, cut, node_of, node_laid, node_count, branch_of, branch_laid, branch_count, slot_of, slot_laid, input_of, input_laid}
+use Rattle.ways.specs.Ways.{has}
+use Rattle.rules.specs.Tables.{all, put, puts, keys, joined, distinct, zeros, slice, rising, find}
+use Rattle.rules.specs.Store.{opened, sealed}
+use Rattle.ways.proofs.Tests.{T→eq, eq→T, F→eq, eq→not, and_l, and_r, and_i, same?}
+use Rattle.rules.specs.Loads.{Cutting, leading, cut, node_of, node_laid, node_count, branch_of, branch_laid, branch_count, slot_of, slot_laid, input_of, input_laid}
 use Rattle.images.proofs.Listing.{find_below}
-use Rattle.images.specs.Passes.{run_of, records_at, n33, p34, n34, p35, n35, p36, n36, end, cut_at, used_at, blanked_at, node_read, node_laid_at, node_count_at, branch_read, branch_laid_at, branch_count_at, slot_read, slot_laid_at, input_read, input_laid_at, next_key}
+use Rattle.images.specs.Passes.{run_of, records_at, n33, p34, n34, p35, n35, p36, n36, end, cut_at, blanked_at, node_read, node_laid_at, node_count_at, branch_read, branch_laid_at, branch_count_at, slot_read, slot_laid_at, input_read, input_laid_at, next_key}
 
 -- ---- sections
 

@@ -1,20 +1,19 @@
 -- A record is read as what was written, and written as what was read: each kind both ways. Assumes nothing.
-use mathlib.Core.Path.{◌≡◌, refl, sym, ap, ap₂, ◌∙◌, subst}
-use mathlib.Core.Bool.{Bool, true, false, ◌||◌, ◌&&◌, not, cond}
-use mathlib.Core.Logic.{◌⊎◌, inl, inr, ⊎_elim}
+use mathlib.Core.Path.{◌≡◌, refl, sym, ap, ◌∙◌, subst}
+use mathlib.Core.Bool.{Bool, true, false, ◌||◌, ◌&&◌, cond}
 use mathlib.Core.List.{List, [], ◌∷◌, ◌++◌}
 use mathlib.Core.Option.{Option, none, some}
 use Prim.Native.Nat.{ℕ, zero, suc, ◌+◌, ◌-◌, ◌*◌, ◌/◌, ◌%◌, ◌≤◌, ◌<◌}
 use native.Mathlib.Omega.{arith}
-use lib.Dec.{T, eqb, leb, ltb, eqb_refl, eqb→eq, leb→le, le→leb, ltb→lt, lt→ltb}
+use lib.Dec.{T, eqb, leb, ltb, eqb→eq, leb→le, le→leb, lt→ltb}
 use lib.ListN.{length, get_or, take, drop, replicate, length-append, length-replicate, length-take, length-drop}
 use lib.Seq.{length-take-le, take-append_seam, drop-append_seam}
 use Rattle.units.specs.Limits.{slot_count}
 use Rattle.rules.specs.Tables.{all, zeros, slice}
-use Rattle.rules.specs.Store.{Node, Slot, empty, opened, sealed}
+use Rattle.rules.specs.Store.{Node, Slot, opened, sealed}
 use Rattle.rules.specs.Images.{padded, low_first, node_image, branch_image, slot_image}
-use Rattle.ways.proofs.Tests.{T→eq, and_l, and_r, and_i, or_e}
-use Rattle.rules.specs.Loads.{used, blanked, count_at, node_of, node_laid, node_count, branch_of, branch_laid, branch_count, slot_of, slot_laid, input_of, input_laid}
+use Rattle.ways.proofs.Tests.{and_l, and_r, and_i}
+use Rattle.rules.specs.Loads.{used, blanked, node_of, node_laid, node_count, branch_of, branch_laid, branch_count, slot_of, slot_laid, input_of, input_laid}
 
 -- ---- a list of known length, spelled out
 

@@ -1,16 +1,16 @@
 -- An image of a right store has at most 8,192 bytes. Assumes nothing.
 use mathlib.Core.Path.{◌≡◌, refl, sym, ap, ◌∙◌, subst}
-use mathlib.Core.Bool.{Bool, true, false, cond}
+use mathlib.Core.Bool.{false, cond}
 use mathlib.Core.Logic.{⊎_elim}
 use mathlib.Core.List.{List, [], ◌∷◌, ◌++◌, map}
 use mathlib.Core.Option.{Option, none, some}
-use Prim.Native.Nat.{ℕ, zero, suc, ◌+◌, ◌-◌, ◌*◌, ◌≤◌, ◌<◌}
+use Prim.Native.Nat.{ℕ, suc, ◌+◌, ◌*◌, ◌≤◌}
 use native.Mathlib.Omega.{arith}
 use lib.Dec.{T, eqb, eqb_refl, eqb→eq}
 use lib.ListN.{length, length-append}
 use Rattle.ways.specs.Ways.{sums, is, one, flat, has}
 use Rattle.rules.specs.Tables.{range, times, joined, is_some, or_else}
-use Rattle.rules.specs.Store.{units, Node, Slot, Store, units_of, slot_units, owned}
+use Rattle.rules.specs.Store.{units, Store, units_of, slot_units, owned}
 use Rattle.right.specs.Ledger.{node_units}
 use Rattle.rules.specs.Images.{image}
 use Rattle.rules.specs.Right.{Right}

@@ -2,29 +2,29 @@
 use mathlib.Core.Path.{◌≡◌, refl, sym, ap, ap₂, ◌∙◌, subst, fun_ext}
 use mathlib.Core.Bool.{Bool, true, false, ◌||◌, ◌&&◌, not, cond}
 use mathlib.Core.Logic.{◌⊎◌, inl, inr, ⊎_elim}
-use mathlib.Core.List.{List, [], ◌∷◌, ◌++◌, map, append_assoc, append-nil}
+use mathlib.Core.List.{List, [], ◌∷◌, ◌++◌, map, append-nil}
 use mathlib.Core.Option.{Option, none, some}
-use Prim.Native.Nat.{ℕ, zero, suc, ◌+◌, ◌-◌, ◌*◌, ◌/◌, ◌%◌, ◌≤◌, ◌<◌}
+use Prim.Native.Nat.{ℕ, zero, suc, ◌+◌, ◌-◌, ◌/◌, ◌%◌, ◌≤◌, ◌<◌}
 use native.Mathlib.Omega.{arith}
-use lib.Dec.{T, eqb, leb, ltb, eqb_refl, eqb→eq, leb→le, le→leb, ltb→lt, lt→ltb, nltb→le, not_T}
-use lib.ListN.{length, get_or, take, drop, replicate, length-append, get_or-eq_default}
+use lib.Dec.{T, eqb, leb, ltb, eqb_refl, eqb→eq, leb→le, le→leb, ltb→lt, nltb→le, not_T}
+use lib.ListN.{length, get_or, replicate, length-append, get_or-eq_default}
 use Rattle.units.specs.Limits.{slot_count}
-use Rattle.ways.specs.Ways.{sums, deep, is, flat, has, one}
-use Rattle.rules.specs.Tables.{all, keys, range, times, joined, is_some, or_else, distinct, slice, rising, find}
-use Rattle.rules.specs.Store.{units, Node, Slot, empty, opened, sealed, Store, children_of, units_of, slot_units, root_list, roots, owned, places, ways, reached, alive, in_use}
+use Rattle.ways.specs.Ways.{flat, has, one}
+use Rattle.rules.specs.Tables.{all, keys, range, times, joined, is_some, or_else, distinct, rising, find}
+use Rattle.rules.specs.Store.{units, Node, Slot, empty, opened, sealed, Store, units_of, slot_units, owned, places, ways, reached, alive, in_use}
 use Rattle.right.specs.Ledger.{node_units}
-use Rattle.rules.specs.Steps.{Outcome, accepted, refused, need}
+use Rattle.rules.specs.Steps.{Outcome, accepted, need}
 use Rattle.rules.specs.Images.{padded, low_first, node_image, branch_image, slot_image, slot_images, input_images, image}
-use Rattle.rules.specs.Right.{NodeOk, BranchOk, slot_ok, Sound, Right}
-use Rattle.ways.proofs.Tests.{T→eq, eq→T, F→eq, eq→not, and_l, and_r, and_i, or_e, or_l, or_r, same?}
+use Rattle.rules.specs.Right.{slot_ok, Right}
+use Rattle.ways.proofs.Tests.{T→eq, eq→T, and_l, and_r, and_i, or_l, or_r}
 use Rattle.ways.proofs.Members.{has_pos, pos_has, has_left, has_right}
 use Rattle.right.proofs.Tables.{all_in}
-use Rattle.right.proofs.Lists.{all_append, all_get, all_from}
-use Rattle.right.proofs.Ledger.{has_at, has_flat, has_unit, some_of_lem}
+use Rattle.right.proofs.Lists.{all_append, all_get}
+use Rattle.right.proofs.Ledger.{has_flat, has_unit}
 use Rattle.right.proofs.Extended.{slot_owned}
 use Rattle.right.proofs.Ledger.{root_named}
 use Rattle.rules.specs.Loads.{Cutting, Cut, leading, cut, node_of, node_laid, node_count, branch_of, branch_laid, branch_count, slot_of, slot_laid, input_of, input_laid, nodes_in, branches_in, slots_in, inputs_in, built, every, lines, is_node, is_branch, names, laid, claims, owned_once, named, shallow, countable, all_held, counts_agree, judge, load}
-use Rattle.images.proofs.Listing.{all_and, to_map, to_keys, push, entries, flat_entries, rising_entries, find_entries, all_entries, joint, sized, lead_all, After, after, not_after, fewer}
+use Rattle.images.proofs.Listing.{to_map, to_keys, push, entries, flat_entries, rising_entries, find_entries, all_entries, joint, sized, lead_all, After, after, not_after, fewer}
 use Rattle.images.proofs.Record.{NodeRead, node_read_lem, BranchRead, branch_read_lem, SlotRead, taken_read, sealed_read, input_image, InputRead, input_read_lem}
 use Rattle.images.proofs.Loaded.{all_has, joined_keys, joined_map, input_part, input_flat, slot_flat}
 

@@ -1,14 +1,14 @@
 -- Demand 2 for images: an image is accepted exactly when it is what the writer writes for a right store, and then as that store; so
 -- writing and loading undo one another; and each refusal is given exactly when its line is the first that applies. Assumes nothing.
-use mathlib.Core.Path.{◌≡◌, refl, sym, ap, ◌∙◌, subst}
-use mathlib.Core.Bool.{Bool, true, false}
+use mathlib.Core.Path.{◌≡◌, sym, ap, ◌∙◌, subst}
+use mathlib.Core.Bool.{Bool}
 use mathlib.Core.Logic.{◌↔◌}
 use mathlib.Core.List.{List, [], ◌∷◌}
 use Prim.Native.Nat.{ℕ, ◌≤◌}
 use lib.ListN.{length}
 use Rattle.units.specs.Limits.{writer_wants}
 use Rattle.rules.specs.Store.{Store}
-use Rattle.rules.specs.Steps.{Outcome, accepted, refused, need}
+use Rattle.rules.specs.Steps.{accepted, refused}
 use Rattle.rules.specs.Images.{image}
 use Rattle.rules.specs.Right.{Right}
 use Rattle.rules.specs.Loads.{Cut, cut, built, laid, owned_once, named, shallow, countable, all_held, counts_agree, judge, load}

@@ -1,6 +1,6 @@
 -- The same by positions in the whole image, as a program's passes go: `get_or`s at `at + numeral`, sections of a fixed stride, levels as
 -- sets. Each is tied to document 01's definition by a law in proofs/Passes. Assumes nothing.
-use Rattle.std.specs.Prelude.{ℕ, zero, suc, ◌+◌, ◌*◌, Bool, true, false, ◌||◌, ◌&&◌, not, cond, List, [], ◌∷◌, ◌++◌, map, eqb, leb, ltb, length, get_or, take, drop}
+use Rattle.std.specs.Prelude.{ℕ, zero, suc, ◌+◌, ◌*◌, Bool, true, ◌||◌, ◌&&◌, cond, List, [], ◌∷◌, eqb, leb, ltb, length, get_or, take, drop}
 use Rattle.units.specs.Limits.{slot_count, compactor_count}
 use Rattle.rules.specs.Tables.{all, zeros, slice}
 use Rattle.rules.specs.Store.{Node, Slot, opened, sealed}

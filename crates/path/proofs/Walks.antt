@@ -19,7 +19,7 @@ use Rattle.counting.specs.declared.Node.{Node}
 use Rattle.counting.specs.Nodes.{node_in, put_node}
 use Rattle.counting.specs.Change.{add_counts}
 use Rattle.path.specs.declared.Found.TheVariants.{At, Nowhere}
-use Rattle.path.specs.Graph.{named, with_child, eight_in, children_in, found, found_in, index_number, top_of, copied_tree}
+use Rattle.path.specs.Graph.{named, with_child, eight_in, children_in, found_in, index_number, top_of, copied_tree}
 
 -- ---- an index
 

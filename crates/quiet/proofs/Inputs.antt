@@ -1,10 +1,10 @@
 -- Compact begin and compact abort over the arrays are those of the rules. Assumes nothing.
 use mathlib.Core.Path.{◌≡◌, refl, sym, ap, ap₂, ◌∙◌, subst}
 use mathlib.Core.Bool.{Bool, true, false, ◌||◌, ◌&&◌, not, cond}
-use mathlib.Core.Logic.{◌⊎◌, inl, ⊎_elim}
+use mathlib.Core.Logic.{inl, ⊎_elim}
 use mathlib.Core.List.{List, [], ◌∷◌, ◌++◌}
 use mathlib.Core.Option.{Option, none, some}
-use Prim.Native.Nat.{ℕ, zero, suc, ◌+◌, ◌-◌, ◌≤◌, ◌<◌}
+use Prim.Native.Nat.{ℕ, zero, suc, ◌-◌, ◌≤◌, ◌<◌}
 use native.Mathlib.Omega.{arith}
 use lib.Dec.{T, eqb, leb, ltb, leb→le}
 use lib.ListN.{length, get_or, set, take, drop, length-take, length-drop, length-set}

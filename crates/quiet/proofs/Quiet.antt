@@ -11,7 +11,7 @@ use lib.Dec.{T, eqb, ltb}
 use lib.ListN.{length, set}
 use borrow.Author.Tests.{eq-eqb, ne_eqb}
 use Rattle.units.specs.Limits.{last_unit, slot_count}
-use Rattle.ways.specs.Ways.{has, is, one}
+use Rattle.ways.specs.Ways.{has, one}
 use Rattle.ways.proofs.Tests.{eq→T, or_l, or_r}
 use Rattle.ways.proofs.Members.{has_pos, pos_has}
 use Rattle.rules.specs.Tables.{times, joined, is_some, or_else}

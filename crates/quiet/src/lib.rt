@@ -31,6 +31,7 @@ fn is_open(x: Slot) -> bool
 }
 
 // Empty, or open with a place left: an empty slot has no units.
+#[tactic(auto, unfolding(crate::specs::Slots::has_room))]
 fn has_room(x: Slot) -> bool
     ensures { result ≡ has_room x }
 {
@@ -41,6 +42,7 @@ fn has_room(x: Slot) -> bool
 }
 
 // At least one of its units and not more than it has.
+#[tactic(auto, unfolding(crate::specs::Slots::keeps_some))]
 fn keeps_some(x: Slot, n: u8) -> bool
     ensures { result ≡ keeps_some x n }
 {

@@ -1,12 +1,11 @@
 -- A row is a run of bytes that stands at a place of a list. Pouring stores a row: it then stands there, and a row apart from it stands
 -- as before. Every record of the lent arrays is read and stored through these. Assumes nothing.
-use Rattle.std.specs.Prelude.{◌⊎◌, Bool, true, false, ◌≡◌, refl, List, [], ◌∷◌, ◌++◌, ℕ, zero, suc, ◌+◌, ◌-◌, ◌*◌, ◌≤◌, ◌<◌, eqb, ltb, length, get_or, set, take, drop, replicate}
-use Rattle.std.proofs.Common.{inl, inr, ⊎_elim, ap, sym, ◌∙◌, eq-or-lt_of_le, mul-le-mul_right, suc-mul, add-one, arith, length-set, length-drop, get_or-set_same, get_or-set_other, take_all, eqb-true, ltb-true, ltb-false}
+use Rattle.std.specs.Prelude.{◌⊎◌, Bool, true, false, ◌≡◌, refl, List, [], ◌∷◌, ◌++◌, ℕ, zero, suc, ◌+◌, ◌-◌, ◌*◌, ◌≤◌, ◌<◌, ltb, length, get_or, set, take, drop, replicate}
+use Rattle.std.proofs.Common.{inl, inr, ⊎_elim, ap, sym, ◌∙◌, eq-or-lt_of_le, mul-le-mul_right, suc-mul, add-one, arith, length-set, length-drop, get_or-set_same, get_or-set_other, take_all, ltb-true, ltb-false}
 use Rattle.std.proofs.lemmas.List.{take-append-le, drop-append-le}
 use Rattle.ways.proofs.Tests.{same_or}
 use Rattle.units.specs.Limits.{room}
 use Rattle.rules.specs.Tables.{slice}
-use Rattle.std.proofs.lemmas.Bool.{eqb-false}
 
 -- the bytes ws stand from b on
 abbrev pub Row : List ℕ → ℕ → List ℕ → Type 0

@@ -3,26 +3,26 @@
 use mathlib.Core.Path.{◌≡◌, refl, sym, ap, ap₂, ◌∙◌, subst, fun_ext}
 use mathlib.Core.Bool.{Bool, true, false, ◌||◌, ◌&&◌, not, cond}
 use mathlib.Core.Logic.{◌⊎◌, inl, inr, ⊎_elim}
-use mathlib.Core.List.{List, [], ◌∷◌, ◌++◌}
+use mathlib.Core.List.{List, [], ◌∷◌}
 use mathlib.Core.Option.{Option, none, some}
 use Prim.Native.Nat.{ℕ, zero, suc, ◌+◌, ◌-◌, ◌≤◌, ◌<◌}
 use native.Mathlib.Omega.{arith}
 use native.Mathlib.Nat.{zero-add}
 use lib.Dec.{T, eqb, leb, ltb, eqb_refl}
-use borrow.Author.Tests.{ltb-true, ltb-false, lt-ltb, le-ltb, eq-eqb, ne_eqb, leb-true, leb-false, le-leb, lt-leb}
-use Rattle.units.specs.Limits.{last_unit, most_count}
+use borrow.Author.Tests.{ltb-true, ltb-false, lt-ltb, le-ltb, eq-eqb, ne_eqb, leb-true, leb-false, le-leb}
+use Rattle.units.specs.Limits.{last_unit}
 use Rattle.ways.specs.Ways.{sums, is, one, has, gone}
 use Rattle.ways.specs.Levels.{some_of}
 use Rattle.ways.proofs.Frame.{sums_cong}
 use Rattle.rules.specs.Tables.{all, times, keys, put, puts, keep, is_some, or_else, joined}
 use Rattle.rules.specs.Store.{units, Node, Slot, Store, blank, slot_units, ways, places, in_buffers, in_use, owned, held, reached, alive, prune}
-use Rattle.rules.specs.Steps.{Outcome, accepted, Change, extended, fit, decide, Step, change}
+use Rattle.rules.specs.Steps.{accepted, Change, extended, fit, decide, Step, change}
 use Rattle.rules.specs.Right.{Sound, Right}
 use Rattle.right.specs.Ledger.{Holds, Ledger, owns}
-use Rattle.right.specs.Counts.{added, Counted}
+use Rattle.right.specs.Counts.{added}
 use Rattle.ways.proofs.Tests.{T→eq, eq→T, F→eq, eq→not, and_i, or_e, or_l, or_r, same?, same_or}
 use Rattle.ways.proofs.Members.{has_pos, pos_has, sums_none}
-use Rattle.right.proofs.Tables.{all_in, distinct_once, keep_in, puts_other, puts_holds}
+use Rattle.right.proofs.Tables.{all_in, distinct_once, puts_other}
 use Rattle.right.proofs.Ledger.{has_unit, fresh_unit, Fresh, node_owned}
 use Rattle.right.proofs.Prune.{seen, seen_sum, not_seen, pruned_ways, pruned_places}
 use Rattle.right.proofs.Held.{held_owns}

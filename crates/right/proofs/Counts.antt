@@ -1,24 +1,23 @@
 -- What a step does to the counts, node by node and buffer by buffer, from its ledger. Assumes nothing.
 use mathlib.Core.Path.{◌≡◌, refl, sym, ap, ◌∙◌, subst}
-use mathlib.Core.Bool.{Bool, true, false, ◌&&◌, not, cond}
+use mathlib.Core.Bool.{Bool, true, false, cond}
 use mathlib.Core.List.{List, [], ◌∷◌, ◌++◌}
-use mathlib.Core.Option.{Option, none, some}
-use Prim.Native.Nat.{ℕ, zero, suc, ◌+◌, ◌-◌, ◌≤◌, ◌<◌}
+use mathlib.Core.Option.{Option}
+use Prim.Native.Nat.{ℕ, ◌+◌, ◌≤◌}
 use native.Mathlib.Omega.{arith}
-use lib.Dec.{T, eqb, leb}
-use lib.ListN.{length, get_or, set, take, drop, take-append-drop}
+use lib.Dec.{eqb}
+use lib.ListN.{length, get_or, take, drop, take-append-drop}
 use Rattle.ways.specs.Ways.{sums, total, is, has, follow, spine}
-use Rattle.rules.specs.Tables.{keys, times, is_some, or_else}
+use Rattle.rules.specs.Tables.{keys, times, or_else}
 use Rattle.right.specs.Ledger.{Holds}
-use Rattle.rules.specs.Store.{Node, Store, blank, node_at, children_of, buffers_of, slot_units, roots, root_list, ways, in_buffers, places}
-use Rattle.rules.specs.Steps.{Outcome, accepted, Change, extended, next, decide, copies, Step, Memtable, Grow, Split, Flush, Commit, change, root_node, slot_at, flush_ends, split_ends, commit_ends}
+use Rattle.rules.specs.Store.{Node, Store, blank, node_at, children_of, buffers_of, slot_units, roots, ways, in_buffers, places}
+use Rattle.rules.specs.Steps.{accepted, Change, extended, next, decide, copies, Step, Memtable, Grow, Split, Flush, Commit, change, root_node, slot_at, flush_ends, split_ends, commit_ends}
 use Rattle.right.specs.Counts.{added, Counted}
-use Rattle.rules.specs.Right.{Sound, Right}
+use Rattle.rules.specs.Right.{Right}
 use Rattle.ways.proofs.Frame.{sums_append}
 use Rattle.ways.proofs.Tests.{T→eq, F→eq, eq→not}
 use Rattle.ways.proofs.Members.{sums_none}
 use Rattle.right.proofs.Tables.{puts_other, puts_holds}
-use Rattle.right.proofs.Ledger.{unused_distinct, root_list_lem}
 use Rattle.right.proofs.Prune.{pruned_ways, pruned_places}
 use Rattle.right.proofs.Extended.{Lawful}
 use Rattle.right.proofs.Steps.{Passed, passed, Even, lawful, ledger, apart}

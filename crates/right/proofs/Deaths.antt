@@ -1,21 +1,21 @@
 -- What makes an engine without recounts right: a node that dies is among those that lost a way, a branch that dies is among the buffers
 -- that went or in the input that ended; and which units an accepted step lists, by the counts. Assumes nothing.
 use mathlib.Core.Path.{◌≡◌, refl, sym, ap, ◌∙◌, subst}
-use mathlib.Core.Bool.{Bool, true, false, ◌||◌, not, cond, true≢false}
-use mathlib.Core.Logic.{◌⊎◌, inl, inr, ⊎_elim, ◌↔◌}
-use mathlib.Core.List.{List, [], ◌∷◌}
-use mathlib.Core.Option.{Option, none, some}
-use Prim.Native.Nat.{ℕ, zero, suc, ◌+◌, ◌≤◌, ◌<◌}
+use mathlib.Core.Bool.{Bool, true, false, ◌||◌}
+use mathlib.Core.Logic.{◌⊎◌, inl, inr, ◌↔◌}
+use mathlib.Core.List.{List}
+use mathlib.Core.Option.{Option, some}
+use Prim.Native.Nat.{ℕ, zero, suc, ◌<◌}
 use native.Mathlib.Omega.{arith}
 use lib.Dec.{T, ltb, ltb→lt, lt→ltb}
 use Rattle.ways.specs.Ways.{sums, has}
-use Rattle.rules.specs.Tables.{times, keys, keep, is_some}
-use Rattle.rules.specs.Store.{Node, Store, ways, in_buffers, places, reached, in_use, alive, frees, prune}
-use Rattle.rules.specs.Steps.{Outcome, accepted, Change, extended, next, decide, Step, change}
+use Rattle.rules.specs.Tables.{is_some}
+use Rattle.rules.specs.Store.{Store, ways, in_buffers, places, in_use, alive, frees, prune}
+use Rattle.rules.specs.Steps.{accepted, extended, next, decide, Step, change}
 use Rattle.rules.specs.Right.{Right}
 use Rattle.right.specs.Ledger.{disowned}
 use Rattle.right.specs.Counts.{Counted}
-use Rattle.ways.proofs.Tests.{T→eq, eq→T, F→eq, eq→not, or_l, or_r}
+use Rattle.ways.proofs.Tests.{eq→T, F→eq, eq→not, or_l, or_r}
 use Rattle.ways.proofs.Members.{pos_has}
 use Rattle.right.proofs.Tables.{keep_in}
 use Rattle.right.proofs.Prune.{pruned_places}

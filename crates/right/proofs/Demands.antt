@@ -1,29 +1,27 @@
 -- Demand 3 of the rules, along any run from a right store, and each refusal exactly when its line is the first that applies.
 -- The statements are readable without their proofs. Assumes nothing.
 use mathlib.Core.Path.{◌≡◌, refl, sym, ap, ◌∙◌, subst}
-use mathlib.Core.Bool.{Bool, true, false, ◌||◌, ◌&&◌, not, cond, true≢false}
+use mathlib.Core.Bool.{Bool, true, false, ◌&&◌, not, cond, true≢false}
 use mathlib.Core.Logic.{◌⊎◌, inl, inr, ⊎_elim, ◌↔◌}
-use mathlib.Core.List.{List, [], ◌∷◌, ◌++◌}
-use mathlib.Core.Option.{Option, none, some}
-use Prim.Native.Nat.{ℕ, zero, suc, ◌+◌, ◌≤◌, ◌<◌}
+use mathlib.Core.List.{List, [], ◌∷◌}
+use Prim.Native.Nat.{ℕ, zero, suc, ◌≤◌}
 use native.Mathlib.Omega.{arith}
-use lib.Dec.{T, eqb, leb, ltb, eqb_refl, eqb→eq, leb→le, le→leb, ltb→lt, lt→ltb, not_T, T_not}
+use lib.Dec.{T, eqb, leb, eqb_refl, leb→le, le→leb}
 use lib.ListN.{length}
 use Rattle.units.specs.Limits.{last_unit}
-use Rattle.ways.specs.Ways.{sums, is, one, has}
-use Rattle.rules.specs.Tables.{all, sift, range, times, distinct, is_some, keys}
-use Rattle.rules.specs.Store.{Node, Store, units, ways, in_buffers, places, reached, in_use, alive, held_units, held, frees, owned}
-use Rattle.rules.specs.Steps.{Outcome, accepted, refused, Change, need, next, extended, small, fit, fresh, decide, Step, change, step, step_in}
+use Rattle.ways.specs.Ways.{one, has}
+use Rattle.rules.specs.Tables.{all, sift, range, times, distinct}
+use Rattle.rules.specs.Store.{Store, units, held_units, held, frees}
+use Rattle.rules.specs.Steps.{Outcome, accepted, refused, need, next, fresh, decide, step, step_in}
 use Rattle.rules.specs.Right.{Right}
 use Rattle.right.specs.Ledger.{owns, disowned}
-use Rattle.right.specs.Counts.{Counted}
-use Rattle.right.specs.Runs.{Proposal, settled, run, Rising, First, lines_of, change_of, table}
-use Rattle.ways.proofs.Tests.{T→eq, eq→T, F→eq, not→eq, eq→not, and_l, and_r, and_i, or_e, or_l, or_r, same?}
-use Rattle.ways.proofs.Members.{has_pos, pos_has}
+use Rattle.right.specs.Runs.{Proposal, settled, run, Rising, First, change_of, table}
+use Rattle.ways.proofs.Tests.{T→eq, eq→T, F→eq, not→eq, eq→not, and_l, and_r, and_i, or_l, or_r}
+use Rattle.ways.proofs.Members.{has_pos}
 use Rattle.right.proofs.Tables.{all_in, distinct_once}
-use Rattle.right.proofs.Held.{held_owns, held_owned, frees_disowned, reached_node}
-use Rattle.right.proofs.Steps.{need_ok, Even, change_right}
-use Rattle.right.proofs.Theorems.{step_right, Read, read, step_counts, disowned_iff}
+use Rattle.right.proofs.Held.{held_owns, frees_disowned}
+use Rattle.right.proofs.Steps.{need_ok}
+use Rattle.right.proofs.Theorems.{step_right, disowned_iff}
 
 -- ---- right throughout
 

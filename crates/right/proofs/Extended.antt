@@ -1,22 +1,22 @@
 -- A change that keeps to the rules leads from a sound store to a sound one, before the dead records go. Assumes nothing.
-use mathlib.Core.Path.{◌≡◌, refl, sym, ap, ◌∙◌, subst}
-use mathlib.Core.Bool.{Bool, true, false, ◌||◌, ◌&&◌, not, cond, true≢false}
-use mathlib.Core.Logic.{◌⊎◌, inl, inr, ⊎_elim}
+use mathlib.Core.Path.{◌≡◌, refl, sym, ap, subst}
+use mathlib.Core.Bool.{Bool, true, false, cond, true≢false}
+use mathlib.Core.Logic.{⊎_elim}
 use mathlib.Core.List.{List, [], ◌∷◌, ◌++◌}
-use mathlib.Core.Option.{Option, none, some}
+use mathlib.Core.Option.{Option, some}
 use Prim.Native.Nat.{ℕ, zero, suc, ◌+◌, ◌≤◌, ◌<◌}
 use native.Mathlib.Omega.{arith}
-use lib.Dec.{T, eqb, leb, eqb_refl, leb→le, eqb→eq}
-use lib.ListN.{length, get_or, set}
-use Rattle.ways.specs.Ways.{sums, walk, deep, nothing, is, one, has, flat}
-use Rattle.rules.specs.Tables.{put, puts, keys, times, all, range, joined, is_some, or_else, distinct}
-use Rattle.rules.specs.Store.{units, Node, Slot, Store, blank, children_of, units_of, slot_units, roots, root_list, owned, in_use}
+use lib.Dec.{T, eqb, leb, eqb_refl, eqb→eq}
+use lib.ListN.{length}
+use Rattle.ways.specs.Ways.{sums, deep, is, one, has, flat}
+use Rattle.rules.specs.Tables.{put, puts, keys, times, all, range, joined, is_some, or_else}
+use Rattle.rules.specs.Store.{units, Node, Store, children_of, units_of, slot_units, roots, root_list, owned, in_use}
 use Rattle.right.specs.Ledger.{node_units, unused, Each}
 use Rattle.rules.specs.Steps.{Change, extended}
 use Rattle.rules.specs.Right.{NodeOk, BranchOk, slot_ok, Sound}
 use Rattle.ways.proofs.Frame.{sums_append, sums_flat}
 use Rattle.ways.proofs.Tests.{T→eq, F→eq, eq→not, or_e, or_l, or_r, same?}
-use Rattle.ways.proofs.Members.{has_pos, pos_has, has_append, has_right}
+use Rattle.ways.proofs.Members.{has_pos, pos_has}
 use Rattle.right.proofs.Tables.{distinct_once}
 use Rattle.right.proofs.Ledger.{fresh_unit, unused_distinct, some_of_lem}
 

@@ -1,27 +1,27 @@
 -- What a step frees, by the counts: a node no way leads to any more, and the units of a branch that no way names and no compactor reads.
 -- Assumes nothing.
 use mathlib.Core.Path.{◌≡◌, refl, sym, ap, ◌∙◌, subst}
-use mathlib.Core.Bool.{Bool, true, false, ◌||◌, ◌&&◌, not, cond, true≢false}
-use mathlib.Core.Logic.{◌⊎◌, inl, inr, ⊎_elim, ◌↔◌}
+use mathlib.Core.Bool.{Bool, true, false, cond}
+use mathlib.Core.Logic.{⊎_elim, ◌↔◌}
 use mathlib.Core.List.{List, [], ◌∷◌, ◌++◌}
 use mathlib.Core.Option.{Option, none, some}
-use Prim.Native.Nat.{ℕ, zero, suc, ◌+◌, ◌-◌, ◌≤◌, ◌<◌}
+use Prim.Native.Nat.{ℕ, ◌+◌, ◌≤◌}
 use native.Mathlib.Omega.{arith}
-use lib.Dec.{T, eqb, leb, eqb→eq, eqb_refl, ltb, ltb→lt, lt→ltb, not_T, T_not}
-use lib.ListN.{length, get_or}
+use lib.Dec.{T, eqb, eqb→eq, eqb_refl, ltb, ltb→lt, lt→ltb, not_T, T_not}
+use lib.ListN.{get_or}
 use Rattle.ways.specs.Ways.{sums, is, one, has, flat}
-use Rattle.rules.specs.Tables.{put, puts, keep, keys, times, joined, is_some, or_else}
+use Rattle.rules.specs.Tables.{keep, keys, times, joined, is_some, or_else}
 use Rattle.rules.specs.Store.{units, Node, Store, slot_units, units_of, owned, ways, places, in_use, reached, alive, prune}
 use Rattle.right.specs.Ledger.{node_units, disowned, owns, Each}
-use Rattle.rules.specs.Steps.{Outcome, accepted, Change, extended, next, decide, Step, change}
+use Rattle.rules.specs.Steps.{accepted, Change, extended, decide, Step, change}
 use Rattle.rules.specs.Right.{BranchOk, Sound, Right}
 use Rattle.ways.proofs.Frame.{sums_append}
-use Rattle.ways.proofs.Tests.{T→eq, eq→T, F→eq, eq→not, not→eq, or_e, or_l, or_r, same?}
+use Rattle.ways.proofs.Tests.{T→eq, eq→T, F→eq, eq→not, or_e, or_l, or_r, same?}
 use Rattle.ways.proofs.Members.{has_pos, pos_has, sums_none, has_left, has_right}
 use Rattle.right.proofs.Tables.{puts_other, keep_in}
 use Rattle.right.proofs.Ledger.{has_unit, has_flat, has_at, fresh_unit, node_owned}
 use Rattle.right.proofs.Prune.{not_seen, member_le, sums_le, pruned_places}
-use Rattle.right.proofs.Extended.{Lawful, joining, over, node_part, branch_part, owned_parts, puts_over, node_entries, branch_entries, zero_of}
+use Rattle.right.proofs.Extended.{joining, over, node_part, branch_part, owned_parts, puts_over, node_entries, branch_entries, zero_of}
 use Rattle.right.proofs.Steps.{Passed, passed, Even, lawful, change_right}
 use Rattle.right.proofs.Theorems.{disowned_iff}
 

@@ -1,12 +1,12 @@
 -- In a right store what is held, by ways, inputs and slots, is what the records own: so a unit that is not held is owned by nobody.
 -- Assumes nothing.
-use mathlib.Core.Path.{◌≡◌, refl, sym, ap, ap₂, ◌∙◌, subst}
-use mathlib.Core.Bool.{Bool, true, false, ◌||◌, ◌&&◌, not, cond}
+use mathlib.Core.Path.{◌≡◌, refl, sym, ap, ap₂, subst}
+use mathlib.Core.Bool.{Bool, true, false, ◌&&◌, not, cond}
 use mathlib.Core.List.{List, [], ◌∷◌, ◌++◌}
 use mathlib.Core.Option.{Option, none, some}
-use Prim.Native.Nat.{ℕ, ◌+◌, ◌<◌}
+use Prim.Native.Nat.{ℕ}
 use native.Mathlib.Omega.{arith}
-use lib.Dec.{T, leb, ltb, ltb→lt}
+use lib.Dec.{T, leb, ltb→lt}
 use Rattle.ways.specs.Ways.{has, flat}
 use Rattle.rules.specs.Tables.{all, joined, sift, distinct, is_some, or_else}
 use Rattle.rules.specs.Store.{Node, Store, units, units_of, slot_units, ways, reached, alive, held_units, held, frees, owned}

@@ -1,23 +1,23 @@
 -- What a step does to every sum over the ways: its ledger. Assumes nothing.
 use mathlib.Core.Path.{◌≡◌, refl, sym, ap, ◌∙◌, subst}
-use mathlib.Core.Bool.{Bool, true, false, ◌||◌, ◌&&◌, not, cond, true≢false}
-use mathlib.Core.Logic.{◌⊎◌, inl, inr, ⊎_elim, ◌≢◌}
+use mathlib.Core.Bool.{Bool, true, false, ◌&&◌, not}
+use mathlib.Core.Logic.{⊎_elim, ◌≢◌}
 use mathlib.Core.List.{List, [], ◌∷◌, ◌++◌}
 use mathlib.Core.Option.{Option, none, some}
-use Prim.Native.Nat.{ℕ, zero, suc, ◌+◌, ◌-◌, ◌≤◌, ◌<◌}
+use Prim.Native.Nat.{ℕ, zero, suc, ◌+◌, ◌≤◌, ◌<◌}
 use native.Mathlib.Omega.{arith}
 use lib.Dec.{T, eqb, leb, ltb, eqb_refl, eqb→eq, ltb→lt, leb→le, T_not}
-use lib.ListN.{length, get_or, set, take, drop}
-use Rattle.ways.specs.Ways.{sums, walk, total, totals, deep, nothing, is, one, has, flat, follow, spine, up, top, Copied}
-use Rattle.rules.specs.Tables.{put, puts, keep, keys, times, all, range, is_some, or_else, distinct}
+use lib.ListN.{length, get_or}
+use Rattle.ways.specs.Ways.{sums, walk, total, totals, is, one, has, flat, follow, spine, up, top, Copied}
+use Rattle.rules.specs.Tables.{keys, all, range, is_some, or_else, distinct}
 use Rattle.right.specs.Ledger.{Holds, node_units, unused, mark, Ledger}
-use Rattle.rules.specs.Store.{units, Node, Store, blank, node_at, children_of, buffers_of, units_of, roots, root_list, owned}
+use Rattle.rules.specs.Store.{units, Node, Store, blank, children_of, root_list, owned}
 use Rattle.rules.specs.Steps.{copies, valid}
-use Rattle.rules.specs.Right.{NodeOk, Sound, Right}
-use Rattle.ways.proofs.Frame.{sums_append, frame_list}
+use Rattle.rules.specs.Right.{Sound}
+use Rattle.ways.proofs.Frame.{sums_append}
 use Rattle.ways.proofs.Copy.{along, sums_at}
-use Rattle.ways.proofs.Tests.{T→eq, eq→T, F→eq, not→eq, eq→not, and_l, and_r, or_e, or_l, or_r, same?}
-use Rattle.ways.proofs.Members.{has_pos, pos_has, has_left, has_right, sums_none}
+use Rattle.ways.proofs.Tests.{T→eq, F→eq, eq→not, and_l, and_r, or_e, or_l, or_r, same?}
+use Rattle.ways.proofs.Members.{pos_has, has_left, has_right, sums_none}
 use Rattle.right.proofs.Tables.{all_in}
 
 -- ---- small

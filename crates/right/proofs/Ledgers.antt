@@ -1,24 +1,24 @@
 -- The ledger of each kind of step, from its change. Assumes nothing.
 use mathlib.Core.Path.{◌≡◌, refl, sym, ap, ◌∙◌, subst}
-use mathlib.Core.Bool.{Bool, true, false, ◌||◌, ◌&&◌, not, cond, true≢false}
-use mathlib.Core.Logic.{◌⊎◌, inl, inr, ⊎_elim, ◌≢◌}
-use mathlib.Core.List.{List, [], ◌∷◌, ◌++◌, map, append_assoc}
-use mathlib.Core.Option.{Option, none, some}
+use mathlib.Core.Bool.{Bool, true, false, ◌&&◌, not}
+use mathlib.Core.Logic.{◌⊎◌, inl, inr, ⊎_elim}
+use mathlib.Core.List.{List, [], ◌∷◌, ◌++◌}
+use mathlib.Core.Option.{Option, some}
 use Prim.Native.Nat.{ℕ, zero, suc, ◌+◌, ◌-◌, ◌≤◌, ◌<◌}
 use native.Mathlib.Omega.{arith}
-use lib.Dec.{T, eqb, leb, ltb, eqb_refl, eqb→eq, ltb→lt, leb→le, lt→ltb}
-use lib.ListN.{length, get_or, set, take, drop, length-append, length-take, take-append-drop}
-use Rattle.ways.specs.Ways.{sums, walk, total, totals, deep, nothing, is, one, has, flat, follow, spine, up, top, Copied}
-use Rattle.rules.specs.Tables.{put, puts, keep, keys, times, all, range, is_some, or_else, distinct}
-use Rattle.right.specs.Ledger.{Holds, node_units, unused, mark, Ledger}
-use Rattle.rules.specs.Store.{units, Node, Store, blank, node_at, children_of, buffers_of, units_of, roots, root_list, owned}
+use lib.Dec.{T, eqb, ltb, eqb_refl, eqb→eq, ltb→lt}
+use lib.ListN.{length, get_or, take, drop, length-append, take-append-drop}
+use Rattle.ways.specs.Ways.{sums, walk, deep, nothing, has, follow}
+use Rattle.rules.specs.Tables.{puts, keys, is_some, or_else, distinct}
+use Rattle.right.specs.Ledger.{Holds, unused, mark, Ledger}
+use Rattle.rules.specs.Store.{Node, Store, blank, children_of, root_list}
 use Rattle.rules.specs.Steps.{Change, extended, copies, valid, flush_change, split_change, commit_change, grow_change, memtable_change, root_node}
-use Rattle.rules.specs.Right.{NodeOk, Sound, Right}
-use Rattle.ways.proofs.Frame.{sums_append, sums_ext, frame_list, deep_more, height}
-use Rattle.ways.proofs.Copy.{along, sums_at, flush, split, same_children, leaf}
-use Rattle.ways.proofs.Tests.{T→eq, eq→T, F→eq, not→eq, eq→not, and_l, and_r, and_i, or_e, or_l, or_r, same?}
+use Rattle.rules.specs.Right.{Sound}
+use Rattle.ways.proofs.Frame.{sums_ext, frame_list, deep_more, height}
+use Rattle.ways.proofs.Copy.{sums_at, flush, split, same_children, leaf}
+use Rattle.ways.proofs.Tests.{F→eq, not→eq, and_l, and_r, and_i, or_l}
 use Rattle.right.proofs.Tables.{puts_other, puts_holds, holds_append, keys_append}
-use Rattle.right.proofs.Ledger.{has_at, up_length, fresh_unit, clear, clear_root, unmark, root_named, copied, keys_copies, root_list_lem, spliced, follow_node, unused_distinct}
+use Rattle.right.proofs.Ledger.{up_length, fresh_unit, clear, clear_root, unmark, root_named, copied, keys_copies, root_list_lem, spliced, follow_node, unused_distinct}
 
 -- ---- depth
 

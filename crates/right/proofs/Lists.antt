@@ -1,13 +1,13 @@
 -- Members and tests of lists that were cut, joined and stored into. Assumes nothing.
-use mathlib.Core.Path.{◌≡◌, refl, sym, ap, ◌∙◌, subst}
-use mathlib.Core.Bool.{Bool, true, false, ◌||◌, ◌&&◌, not, cond}
+use mathlib.Core.Path.{◌≡◌, sym}
+use mathlib.Core.Bool.{Bool}
 use mathlib.Core.Logic.{◌⊎◌, inl, inr, ⊎_elim}
 use mathlib.Core.List.{List, [], ◌∷◌, ◌++◌, map}
-use Prim.Native.Nat.{ℕ, zero, suc, ◌+◌, ◌-◌, ◌≤◌, ◌<◌}
+use Prim.Native.Nat.{ℕ, zero, suc, ◌+◌, ◌≤◌, ◌<◌}
 use native.Mathlib.Omega.{arith}
 use lib.Dec.{T, eqb, leb, eqb→eq, leb→le, le→leb}
 use lib.ListN.{length, get_or, set, take, drop}
-use Rattle.ways.specs.Ways.{sums, is, one, has}
+use Rattle.ways.specs.Ways.{is, has}
 use Rattle.rules.specs.Tables.{all, times, joined}
 use Rattle.rules.specs.Store.{in_use}
 use Rattle.right.specs.Ledger.{Each}

@@ -1,22 +1,21 @@
 -- Once the dead records are gone a sound store is right, and no sum over the ways has changed. Assumes nothing.
 use mathlib.Core.Path.{◌≡◌, refl, sym, ap, ◌∙◌, subst}
-use mathlib.Core.Bool.{Bool, true, false, ◌||◌, ◌&&◌, not, cond, true≢false}
-use mathlib.Core.Logic.{◌⊎◌, inl, inr, ⊎_elim}
+use mathlib.Core.Bool.{Bool, true, false, ◌||◌, not, cond}
+use mathlib.Core.Logic.{⊎_elim}
 use mathlib.Core.List.{List, [], ◌∷◌, ◌++◌}
 use mathlib.Core.Option.{Option, none, some}
-use Prim.Native.Nat.{ℕ, zero, suc, ◌+◌, ◌≤◌, ◌<◌}
+use Prim.Native.Nat.{ℕ, zero, suc, ◌+◌, ◌≤◌}
 use native.Mathlib.Omega.{arith}
 use lib.Dec.{T, eqb, leb, ltb, eqb_refl, eqb→eq, leb→le, ltb→lt, lt→ltb}
-use lib.ListN.{length}
 use Rattle.ways.specs.Ways.{sums, walk, total, totals, deep, nothing, is, one, has, flat, visits}
-use Rattle.rules.specs.Tables.{keep, times, all, range, joined, is_some, or_else}
-use Rattle.rules.specs.Store.{units, Node, Slot, Store, blank, children_of, buffers_of, units_of, slot_units, roots, owned, places, ways, in_buffers, in_use, reached, alive, prune}
+use Rattle.rules.specs.Tables.{keep, times, joined, is_some, or_else}
+use Rattle.rules.specs.Store.{units, Node, Store, blank, children_of, buffers_of, units_of, slot_units, roots, owned, places, ways, in_buffers, in_use, reached, alive, prune}
 use Rattle.right.specs.Ledger.{node_units}
 use Rattle.rules.specs.Steps.{fit}
 use Rattle.rules.specs.Right.{NodeOk, Sound, Right}
-use Rattle.ways.proofs.Frame.{sums_append, sums_ext, sums_flat, sums_cong, frame_list, total_visits, outside, height}
-use Rattle.ways.proofs.Tests.{T→eq, F→eq, eq→not, or_e, or_l, or_r}
-use Rattle.ways.proofs.Members.{has_pos, pos_has, has_left, sums_none}
+use Rattle.ways.proofs.Frame.{sums_append, sums_ext, sums_flat, sums_cong, frame_list, total_visits, height}
+use Rattle.ways.proofs.Tests.{F→eq, or_e, or_l, or_r}
+use Rattle.ways.proofs.Members.{has_pos, pos_has, sums_none}
 use Rattle.right.proofs.Tables.{all_in, keep_in}
 use Rattle.right.proofs.Ledger.{has_flat, has_unit, child_named}
 

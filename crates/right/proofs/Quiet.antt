@@ -1,23 +1,22 @@
 -- The kinds that leave the tree as it is keep to the rules. Assumes nothing.
 use mathlib.Core.Path.{◌≡◌, refl, sym, ap, ◌∙◌, subst}
-use mathlib.Core.Bool.{Bool, true, false, ◌||◌, ◌&&◌, not, cond}
-use mathlib.Core.Logic.{◌⊎◌, inl, inr, ⊎_elim}
+use mathlib.Core.Bool.{Bool, true, ◌||◌, ◌&&◌}
+use mathlib.Core.Logic.{⊎_elim}
 use mathlib.Core.List.{List, [], ◌∷◌, ◌++◌}
-use mathlib.Core.Option.{Option, none, some}
-use Prim.Native.Nat.{ℕ, zero, suc, ◌+◌, ◌-◌, ◌≤◌, ◌<◌, min}
+use mathlib.Core.Option.{Option}
+use Prim.Native.Nat.{ℕ, ◌+◌, ◌-◌, ◌≤◌, ◌<◌, min}
 use native.Mathlib.Omega.{arith}
-use lib.Dec.{T, eqb, leb, ltb, leb→le, le→leb, ltb→lt}
-use lib.ListN.{length, get_or, set, take, drop, length-set, length-take, length-append, length-drop}
+use lib.Dec.{T, leb, ltb, leb→le, le→leb, ltb→lt}
+use lib.ListN.{length, take, drop, length-set, length-take, length-append, length-drop}
 use Rattle.units.specs.Limits.{slot_count}
-use Rattle.ways.specs.Ways.{sums, walk, deep, nothing, is, has, follow}
+use Rattle.ways.specs.Ways.{sums, nothing, is, has, follow}
 use Rattle.rules.specs.Tables.{keys, times, all, joined, is_some, or_else, slice}
-use Rattle.rules.specs.Store.{Node, Slot, empty, opened, sealed, Store, blank, node_at, children_of, buffers_of, slot_units, roots, root_list, owned, in_use}
-use Rattle.rules.specs.Steps.{quiet, is_slot, Change, extended, idle, take_change, seal_change, abandon_change, begin_change, abort_change, slot_at, input_at, is_open, is_empty, is_sealed}
+use Rattle.rules.specs.Store.{Node, Slot, empty, opened, sealed, Store, blank, node_at, children_of, buffers_of, slot_units, root_list, in_use}
+use Rattle.rules.specs.Steps.{quiet, is_slot, Change, extended, take_change, seal_change, abandon_change, begin_change, abort_change, slot_at, is_open, is_empty}
 use Rattle.right.specs.Ledger.{unused, Each}
 use Rattle.rules.specs.Right.{NodeOk, BranchOk, slot_ok, Sound}
 use Rattle.ways.proofs.Frame.{sums_append}
-use Rattle.ways.proofs.Tests.{and_l, and_r, and_i, or_e, or_l, or_r}
-use Rattle.ways.proofs.Members.{has_pos, pos_has, has_left}
+use Rattle.ways.proofs.Tests.{and_l, and_r, and_i}
 use Rattle.right.proofs.Ledger.{some_of_lem}
 use Rattle.right.proofs.Ledgers.{quiet_ledger, AtNode, at_node}
 use Rattle.right.proofs.Extended.{Lawful, joining, node_still, branch_still}

@@ -1,24 +1,22 @@
 -- The theorems on steps: a step that is accepted leads from a right store to a right one, and moves each count by what it drops and adds.
 -- Assumes nothing.
-use mathlib.Core.Path.{◌≡◌, refl, sym, ap, ◌∙◌, subst}
-use mathlib.Core.Bool.{Bool, true, false, ◌||◌, ◌&&◌, not, cond}
-use mathlib.Core.List.{List, [], ◌∷◌, ◌++◌}
+use mathlib.Core.Path.{◌≡◌, refl, sym, subst}
+use mathlib.Core.Bool.{Bool, true, false}
+use mathlib.Core.List.{List}
 use mathlib.Core.Option.{Option, none, some}
-use Prim.Native.Nat.{ℕ, zero, suc, ◌+◌, ◌-◌, ◌≤◌, ◌<◌, min}
+use Prim.Native.Nat.{ℕ, ◌+◌, ◌≤◌}
 use native.Mathlib.Omega.{arith}
-use lib.Dec.{T, eqb, leb, eqb→eq}
-use lib.ListN.{length, get_or, set, take, drop, length-take, length-drop}
-use Rattle.ways.specs.Ways.{sums, walk, is, has}
-use Rattle.rules.specs.Tables.{keys, times, all, is_some, or_else, distinct, slice}
-use Rattle.right.specs.Ledger.{Holds, unused, Ledger}
-use Rattle.rules.specs.Store.{Node, Store, blank, children_of, buffers_of, roots, owned, ways, in_buffers, places, prune}
-use Rattle.rules.specs.Steps.{fresh, Outcome, accepted, refused, Change, extended, next, small, fit, need, decide, Step, no_step, Take, Seal, Memtable, Abandon, Grow, Abort, Split, Flush, Begin, Commit, change, steps, step}
-use Rattle.units.specs.Bodies.{body_length}
+use lib.Dec.{T}
+use lib.ListN.{length, take}
+use Rattle.ways.specs.Ways.{is}
+use Rattle.rules.specs.Tables.{keys, times, all, is_some, distinct}
+use Rattle.right.specs.Ledger.{unused, Ledger}
+use Rattle.rules.specs.Store.{Node, Store, ways}
+use Rattle.rules.specs.Steps.{fresh, Outcome, accepted, Change, extended, next, small, fit, need, decide, Step, no_step, Take, Seal, Memtable, Abandon, Grow, Abort, Split, Flush, Begin, Commit, change}
 use Rattle.rules.specs.Right.{Sound, Right}
-use Rattle.ways.proofs.Frame.{sums_cong}
 use Rattle.ways.proofs.Members.{pos_has}
 use Rattle.right.proofs.Tables.{distinct_once}
-use Rattle.right.proofs.Ledgers.{extended_holds, quiet_ledger, flush_ledger, split_ledger, commit_ledger, grow_ledger, memtable_ledger, path_keys}
+use Rattle.right.proofs.Ledgers.{quiet_ledger, flush_ledger, split_ledger, commit_ledger, grow_ledger, memtable_ledger, path_keys}
 use Rattle.right.proofs.Ledger.{unused_distinct, fresh_unit, node_owned}
 use Rattle.right.proofs.Held.{fresh_unused}
 use Rattle.right.proofs.Prune.{settle, not_seen}

@@ -1,24 +1,22 @@
 -- The store after an accepted step that leaves the tree as it is: take, seal, abandon, begin, abort. Assumes nothing.
-use mathlib.Core.Path.{◌≡◌, refl, sym, ap, ◌∙◌, subst, fun_ext}
+use mathlib.Core.Path.{◌≡◌, refl, sym, ap, ◌∙◌, subst}
 use mathlib.Core.Bool.{Bool, true, false, ◌||◌, ◌&&◌, not, cond}
 use mathlib.Core.Logic.{◌⊎◌, inl, inr, ⊎_elim}
-use mathlib.Core.List.{List, [], ◌∷◌, ◌++◌}
+use mathlib.Core.List.{List, [], ◌∷◌}
 use mathlib.Core.Option.{Option, none, some}
-use Prim.Native.Nat.{ℕ, zero, suc, ◌+◌, ◌≤◌, ◌<◌}
+use Prim.Native.Nat.{ℕ, zero, suc}
 use native.Mathlib.Omega.{arith}
 use lib.Dec.{T, eqb, ltb}
-use lib.ListN.{length, get_or, set}
+use lib.ListN.{get_or, set}
 use borrow.Author.Tests.{lt-ltb, ne_eqb}
-use Rattle.ways.specs.Ways.{sums, is, has}
+use Rattle.ways.specs.Ways.{sums, has}
 use Rattle.rules.specs.Tables.{times, keys, puts, is_some}
-use Rattle.rules.specs.Store.{Node, Store, ways, places, in_buffers, in_use, reached, alive}
-use Rattle.rules.specs.Steps.{Outcome, accepted, Change, extended, fit, decide, Step, change}
+use Rattle.rules.specs.Store.{Node, Store, ways, places, in_buffers, in_use, reached}
+use Rattle.rules.specs.Steps.{accepted, Change, extended, fit, decide, Step, change}
 use Rattle.rules.specs.Right.{Right}
-use Rattle.right.specs.Ledger.{Ledger}
-use Rattle.right.specs.Counts.{added, Counted}
-use Rattle.ways.proofs.Tests.{T→eq, eq→T, or_e, or_l, or_r}
-use Rattle.right.proofs.Prune.{pruned_ways}
-use Rattle.right.proofs.Steps.{Even, passed, ledger}
+use Rattle.right.specs.Counts.{added}
+use Rattle.ways.proofs.Tests.{T→eq, or_e, or_l, or_r}
+use Rattle.right.proofs.Steps.{Even}
 use Rattle.right.proofs.Counts.{counted}
 use Rattle.right.proofs.After.{after_nodes, after_branches, after_root, kept_branches, places_low, fit_of}
 

@@ -1,17 +1,17 @@
 -- Tests, tables and lists as the store uses them. Assumes nothing.
 use mathlib.Core.Path.{◌≡◌, refl, sym, ap, ◌∙◌, subst}
-use mathlib.Core.Bool.{Bool, true, false, ◌||◌, ◌&&◌, not, cond, true≢false}
-use mathlib.Core.Logic.{◌⊎◌, inl, inr, ⊎_elim}
+use mathlib.Core.Bool.{Bool, true, false, ◌||◌, not, true≢false}
+use mathlib.Core.Logic.{⊎_elim}
 use mathlib.Core.List.{List, [], ◌∷◌, ◌++◌}
 use mathlib.Core.Option.{Option, none, some}
-use Prim.Native.Nat.{ℕ, zero, suc, ◌+◌, ◌-◌, ◌≤◌, ◌<◌}
+use Prim.Native.Nat.{ℕ, ◌≤◌}
 use native.Mathlib.Omega.{arith}
-use lib.Dec.{T, eqb, leb, eqb_refl, eqb→eq}
-use Rattle.ways.specs.Ways.{sums, is, one, has, flat}
+use lib.Dec.{T, eqb, eqb_refl, eqb→eq}
+use Rattle.ways.specs.Ways.{is, one, has}
 use Rattle.rules.specs.Tables.{put, puts, keep, keys, times, all, distinct}
 use Rattle.right.specs.Ledger.{Holds}
-use Rattle.ways.proofs.Tests.{T→eq, eq→T, F→eq, not→eq, eq→not, and_l, and_r, and_i, or_e, or_l, or_r, same?}
-use Rattle.ways.proofs.Members.{has_pos, pos_has, has_append, has_left, has_right, sums_none}
+use Rattle.ways.proofs.Tests.{T→eq, F→eq, not→eq, eq→not, and_l, and_r, or_e, same?}
+use Rattle.ways.proofs.Members.{sums_none}
 
 -- what a test of all members says of one
 pub all_in : (f : ℕ → Bool) (l : List ℕ) (x : ℕ) → T (all f l) → T (has x l) → T (f x)

@@ -1,25 +1,24 @@
 -- The theorems of the store, from the record's bytes. Assumes nothing.
-use mathlib.Core.Path.{◌≡◌, refl, sym, ap, ◌∙◌, subst}
-use mathlib.Core.Bool.{Bool, true, false, ◌||◌, ◌&&◌, not, cond}
-use mathlib.Core.Logic.{◌⊎◌, inl, inr, ⊎_elim, ◌↔◌}
-use mathlib.Core.List.{List, [], ◌∷◌, ◌++◌}
-use mathlib.Core.Option.{Option, none, some}
-use Prim.Native.Nat.{ℕ, zero, suc, ◌+◌, ◌-◌, ◌≤◌, ◌<◌, min}
+use mathlib.Core.Path.{◌≡◌, refl, sym, ap, subst}
+use mathlib.Core.Bool.{Bool, true, false, ◌&&◌, not, cond}
+use mathlib.Core.Logic.{◌↔◌}
+use mathlib.Core.List.{List, [], ◌∷◌}
+use Prim.Native.Nat.{ℕ, zero, suc, ◌+◌, ◌≤◌}
 use native.Mathlib.Omega.{arith}
-use lib.Dec.{T, eqb, leb, eqb→eq, eqb_refl}
+use lib.Dec.{T, eqb, leb, eqb→eq}
 use lib.ListN.{length, get_or, take, drop, length-take, length-drop}
 use Rattle.ways.specs.Ways.{sums, walk, visits, is, has, flat, deep}
-use Rattle.rules.specs.Tables.{keys, times, all, sift, range, joined, is_some, slice}
-use Rattle.rules.specs.Store.{units, Node, Slot, empty, Store, empty_store, roots, owned, ways, in_buffers, places}
+use Rattle.rules.specs.Tables.{times, sift, slice}
+use Rattle.rules.specs.Store.{units, Store, empty_store, owned}
 use Rattle.right.specs.Ledger.{disowned, owns}
-use Rattle.rules.specs.Steps.{Outcome, accepted, refused, Change, need, decide, Step, no_step, change, steps, step}
+use Rattle.rules.specs.Steps.{accepted, decide, Step, no_step, change, steps, step}
 use Rattle.units.specs.Bodies.{body_parts, body_length, sum_of}
-use Rattle.rules.specs.Right.{NodeOk, BranchOk, Sound, Right}
-use Rattle.ways.proofs.Tests.{T→eq, eq→T, F→eq, eq→not, not→eq, and_l, and_r, and_i, or_e, or_l, or_r}
+use Rattle.rules.specs.Right.{Right}
+use Rattle.ways.proofs.Tests.{eq→T, F→eq, eq→not, and_l, and_r, and_i}
 use Rattle.ways.proofs.Members.{has_pos, pos_has}
 use Rattle.right.proofs.Ledger.{has_unit}
 use Rattle.right.proofs.Steps.{need_ok, Even, change_right}
-use Rattle.right.specs.Counts.{Counted, added}
+use Rattle.right.specs.Counts.{Counted}
 use Rattle.right.proofs.Counts.{counted}
 
 -- ---- a record's path has as many units as indexes

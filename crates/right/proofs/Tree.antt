@@ -1,26 +1,25 @@
 -- The kinds that change the tree keep to the rules. Assumes nothing.
 use mathlib.Core.Path.{◌≡◌, refl, sym, ap, ◌∙◌, subst}
-use mathlib.Core.Bool.{Bool, true, false, ◌||◌, ◌&&◌, not, cond}
-use mathlib.Core.Logic.{◌⊎◌, inl, inr, ⊎_elim}
+use mathlib.Core.Bool.{Bool, true, false, ◌&&◌, not, cond}
+use mathlib.Core.Logic.{⊎_elim}
 use mathlib.Core.List.{List, [], ◌∷◌, ◌++◌, map}
-use mathlib.Core.Option.{Option, none, some}
-use Prim.Native.Nat.{ℕ, zero, suc, ◌+◌, ◌-◌, ◌≤◌, ◌<◌, min}
+use Prim.Native.Nat.{ℕ, suc, ◌+◌, ◌-◌, ◌≤◌, ◌<◌}
 use native.Mathlib.Omega.{arith}
-use lib.Dec.{T, eqb, leb, ltb, eqb_refl, eqb→eq, leb→le, le→leb, ltb→lt, nleb→lt, nltb→le}
+use lib.Dec.{T, eqb, leb, ltb, eqb_refl, eqb→eq, leb→le, le→leb, ltb→lt, nltb→le}
 use lib.ListN.{length, get_or, set, take, drop, length-set, length-take, length-append, length-drop, length-map}
 use Rattle.units.specs.Limits.{slot_count}
 use Rattle.ways.specs.Ways.{sums, walk, deep, nothing, is, has, follow, top}
-use Rattle.rules.specs.Tables.{keys, times, all, joined, is_some, or_else, slice}
-use Rattle.rules.specs.Store.{Node, Slot, empty, opened, sealed, Store, blank, node_at, children_of, buffers_of, slot_units, roots, root_list, owned, in_use}
+use Rattle.rules.specs.Tables.{keys, times, all, joined, is_some}
+use Rattle.rules.specs.Store.{Node, Slot, empty, opened, sealed, Store, blank, node_at, children_of, slot_units, root_list, owned, in_use}
 use Rattle.rules.specs.Steps.{is_compactor, is_slot, Change, extended, small, copies, valid, memtable_change, grow_change, split_change, flush_change, commit_change, root_node, slot_at, input_at, is_sealed, moved, path_shape, idle}
 use Rattle.right.specs.Ledger.{unused, Each, Ledger}
 use Rattle.rules.specs.Right.{NodeOk, BranchOk, slot_ok, Sound}
 use Rattle.ways.proofs.Frame.{sums_append}
-use Rattle.ways.proofs.Tests.{T→eq, eq→T, and_l, and_r, and_i, or_e, or_l, or_r}
+use Rattle.ways.proofs.Tests.{eq→T, and_l, and_r, and_i, or_e, or_l, or_r}
 use Rattle.ways.proofs.Members.{has_pos, pos_has, has_append, has_left, has_right}
-use Rattle.right.proofs.Ledger.{some_of_lem, has_at, child_named, top_in, keys_copies, root_named}
+use Rattle.right.proofs.Ledger.{has_at, top_in, root_named}
 use Rattle.right.proofs.Ledgers.{AtNode, AtChild, at_node, at_child, flush_ledger, split_ledger, commit_ledger, grow_ledger, memtable_ledger, path_keys}
-use Rattle.right.proofs.Extended.{Lawful, joining, node_still, branch_still, add_named, join_named, node_ok_still, slot_owned}
+use Rattle.right.proofs.Extended.{Lawful, joining, node_still, branch_still, add_named, join_named, slot_owned}
 use Rattle.right.proofs.Lists.{all_append, all_right, all_take, all_drop, all_set, all_get, all_map, weaker, joined_set, in_use_set, has_take, has_drop, has_set, each_append}
 use Rattle.right.proofs.Quiet.{sums_nothing, node_ok}
 

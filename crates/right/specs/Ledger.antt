@@ -1,11 +1,11 @@
 -- Names that the theory uses between the rules and its theorems: tables that have entries, sums over the ways before and after a
 -- change, and ownership by records, which in a right store is what is held. Assumes nothing.
-use Rattle.std.specs.Prelude.{◌≡◌, Bool, true, false, ◌&&◌, not, cond, List, [], ◌∷◌, ℕ, ◌+◌, leb}
-use Rattle.std.proofs.Math.Option.{Option, none, some}
+use Rattle.std.specs.Prelude.{◌≡◌, Bool, false, ◌&&◌, not, cond, List, [], ◌∷◌, ℕ, ◌+◌, leb}
+use Rattle.std.proofs.Math.Option.{Option, some}
 use Rattle.units.specs.Limits.{longest, last_unit}
 use Rattle.ways.specs.Ways.{sums, walk, has, one}
 use Rattle.rules.specs.Tables.{all, sift, distinct, is_some}
-use Rattle.rules.specs.Store.{Node, Store, units, children_of, roots, owned}
+use Rattle.rules.specs.Store.{Store, units, children_of, roots, owned}
 
 -- the table has each of the entries
 abbrev pub Holds : {A : Type 0} → (ℕ → Option A) → List (ℕ × A) → Type 0

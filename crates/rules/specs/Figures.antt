@@ -1,15 +1,15 @@
 -- Figures that sentences of document 01 give where no starred case looks, worked by hand: which line decides where two are
 -- offended, what becomes of offsets, case 11, queries, and damaged images. Assumes nothing.
-use Rattle.std.specs.Prelude.{ℕ, zero, suc, Bool, true, false, ◌&&◌, List, [], ◌∷◌, ◌++◌, eqb, replicate}
-use Rattle.std.proofs.Math.Option.{Option, none, some}
-use Rattle.units.specs.Limits.{slot_count, compactor_count}
+use Rattle.std.specs.Prelude.{ℕ, zero, suc, Bool, false, ◌&&◌, List, [], ◌∷◌, ◌++◌, eqb, replicate}
+use Rattle.std.proofs.Math.Option.{none}
+use Rattle.units.specs.Limits.{compactor_count}
 use Rattle.rules.specs.Tables.{all, eqs, puts}
-use Rattle.rules.specs.Store.{Node, Slot, empty, opened, sealed, Store, empty_store}
+use Rattle.rules.specs.Store.{Node, Slot, empty, sealed, Store, empty_store}
 use Rattle.rules.specs.Steps.{Outcome, accepted, refused, step_in}
 use Rattle.rules.specs.Images.{image}
 use Rattle.rules.specs.Loads.{load}
 use Rattle.rules.specs.Query.{Owner, reserved, free, a_node, a_branch, a_slot, owner_numbers, query}
-use Rattle.rules.specs.Voyage.{Says, ok, no, Voyage, port, sail, node_counts, branch_counts, shows, runs, zs, leaf_image, unit_image, image2, image10}
+use Rattle.rules.specs.Voyage.{ok, no, port, sail, node_counts, branch_counts, shows, runs, zs, leaf_image, unit_image, image2, image10}
 
 abbrev refusal : Outcome → ℕ
 refusal (accepted s) = 0

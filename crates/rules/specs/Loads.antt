@@ -1,12 +1,11 @@
 -- "A load refuses, first that applies": the bytes are cut into records of fixed length, each record is read by its places, and
 -- the refusals 21 to 27 are tests in their order. Assumes nothing.
-use Rattle.std.specs.Prelude.{ℕ, zero, suc, ◌+◌, ◌*◌, Bool, true, false, ◌||◌, ◌&&◌, not, cond, List, [], ◌∷◌, ◌++◌, map, eqb, leb, ltb, length, get_or, take, drop}
-use Rattle.std.proofs.Math.Option.{Option, none, some}
+use Rattle.std.specs.Prelude.{ℕ, zero, suc, ◌+◌, ◌*◌, Bool, true, ◌||◌, ◌&&◌, cond, List, [], ◌∷◌, ◌++◌, map, eqb, leb, ltb, length, get_or, take, drop}
 use Rattle.units.specs.Limits.{last_unit, room, longest, most_count, slot_count, compactor_count}
-use Rattle.ways.specs.Ways.{sums, deep, has}
+use Rattle.ways.specs.Ways.{sums, deep}
 use Rattle.rules.specs.Tables.{all, joined, range, distinct, rising, zeros, slice, is_some, or_else, keys, find}
 use Rattle.rules.specs.Store.{Node, Slot, empty, opened, sealed, Store, children_of, slot_units, roots, ways, places, reached, alive}
-use Rattle.rules.specs.Steps.{Outcome, accepted, refused, need}
+use Rattle.rules.specs.Steps.{Outcome, accepted, need}
 
 -- ---- the lengths of the records, kind included
 

@@ -1,6 +1,6 @@
 -- "A query for a unit": who owns it, and that owner's count.
 -- Assumes nothing.
-use Rattle.std.specs.Prelude.{ℕ, suc, Bool, true, false, cond, List, [], ◌∷◌, eqb}
+use Rattle.std.specs.Prelude.{ℕ, suc, Bool, cond, List, [], ◌∷◌, eqb}
 use Rattle.std.proofs.Math.Option.{Option, none, some}
 use Rattle.ways.specs.Ways.{has}
 use Rattle.rules.specs.Tables.{is_some}

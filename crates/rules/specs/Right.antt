@@ -1,7 +1,7 @@
 -- "A state is right when it keeps every rule here": of a store without counts and without a map.
 -- Assumes nothing.
-use Rattle.std.specs.Prelude.{◌≡◌, Bool, true, false, ◌&&◌, List, [], ◌∷◌, ℕ, ◌≤◌, T, leb, length, get_or}
-use Rattle.std.proofs.Math.Option.{Option, none, some}
+use Rattle.std.specs.Prelude.{◌≡◌, Bool, true, ◌&&◌, List, ℕ, ◌≤◌, T, leb, length, get_or}
+use Rattle.std.proofs.Math.Option.{some}
 use Rattle.units.specs.Limits.{last_unit, room, longest, most_count, slot_count, compactor_count}
 use Rattle.ways.specs.Ways.{sums, deep, has}
 use Rattle.rules.specs.Tables.{all, times, is_some}

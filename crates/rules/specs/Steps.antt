@@ -1,11 +1,10 @@
 -- "The ten steps" and "When a proposal is turned down": each kind proposes a change; one function judges it in the order of the
 -- table, and one makes the next store, adding everything and then pruning what is no longer held. Assumes nothing.
 use Rattle.std.specs.Prelude.{ℕ, ◌-◌, suc, Bool, true, false, ◌||◌, ◌&&◌, not, cond, List, [], ◌∷◌, ◌++◌, map, eqb, leb, ltb, length, get_or, set, take, drop}
-use Rattle.std.proofs.Math.Option.{Option, none, some}
 use Rattle.units.specs.Limits.{last_unit, room, longest, most_count, slot_count, compactor_count, last_kind}
 use Rattle.units.specs.Bodies.{body_length, indexes}
 use Rattle.ways.specs.Ways.{sums, deep, has, follow, spine, top}
-use Rattle.rules.specs.Tables.{all, eqs, distinct, zeros, slice, puts, keys}
+use Rattle.rules.specs.Tables.{all, eqs, distinct, zeros, slice, puts}
 use Rattle.rules.specs.Store.{Node, Slot, empty, opened, sealed, Store, units, blank, node_at, children_of, slot_units, root_list, places, held_units, prune}
 
 pub data Outcome : Type 0 where

@@ -1,7 +1,7 @@
 -- "What the store holds": the store without counts and without a map. How often a record is counted and what is held is computed
 -- from the ways down from the roots, never read. Assumes nothing.
-use Rattle.std.specs.Prelude.{ℕ, Bool, true, false, ◌||◌, ◌&&◌, not, cond, List, [], ◌∷◌, ◌++◌, eqb, ltb, replicate}
-use Rattle.std.proofs.Math.Option.{Option, none, some}
+use Rattle.std.specs.Prelude.{ℕ, Bool, false, ◌||◌, ◌&&◌, not, cond, List, [], ◌∷◌, ◌++◌, eqb, ltb, replicate}
+use Rattle.std.proofs.Math.Option.{Option, none}
 use Rattle.units.specs.Limits.{last_unit, longest, slot_count, compactor_count}
 use Rattle.ways.specs.Ways.{sums, total, flat, has, is}
 use Rattle.rules.specs.Tables.{joined, sift, range, times, is_some, or_else, keep}

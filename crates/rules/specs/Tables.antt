@@ -1,6 +1,6 @@
 -- Lists, tests of lists, and tables, which are functions from a unit to a record or nothing. Nothing of stores.
 -- Assumes nothing.
-use Rattle.std.specs.Prelude.{ℕ, zero, suc, ◌+◌, Bool, true, false, ◌||◌, ◌&&◌, not, cond, List, [], ◌∷◌, ◌++◌, eqb, leb, take, drop}
+use Rattle.std.specs.Prelude.{ℕ, zero, suc, Bool, true, false, ◌&&◌, not, cond, List, [], ◌∷◌, ◌++◌, eqb, leb, take, drop}
 use Rattle.std.proofs.Math.Option.{Option, none, some}
 use Rattle.ways.specs.Ways.{sums, has, is}
 

@@ -1,7 +1,6 @@
 -- "A voyage through one store": the starred cases of document 01 as one table, and the test that runs it.
 -- Assumes nothing.
-use Rattle.std.specs.Prelude.{ℕ, zero, suc, Bool, true, false, ◌&&◌, List, [], ◌∷◌, ◌++◌, eqb, length, replicate}
-use Rattle.std.proofs.Math.Option.{Option, none, some}
+use Rattle.std.specs.Prelude.{ℕ, Bool, true, false, ◌&&◌, List, [], ◌∷◌, ◌++◌, eqb, length, replicate}
 use Rattle.units.specs.Limits.{last_unit}
 use Rattle.rules.specs.Tables.{all, eqs}
 use Rattle.rules.specs.Store.{Node, Store, empty_store, node_at, frees, ways, places, held_units}

@@ -2,12 +2,11 @@
 -- ones took, with no subtraction. One law, `replace`, carries them all. Assumes nothing.
 use mathlib.Core.Path.{◌≡◌, refl, sym, ap, ◌∙◌}
 use mathlib.Core.List.{List, [], ◌∷◌, ◌++◌}
-use Prim.Native.Nat.{ℕ, zero, suc, ◌+◌, ◌<◌}
-use native.Mathlib.Nat.{not-suc-le-zero, le_of_suc-le-suc}
+use Prim.Native.Nat.{ℕ, suc, ◌+◌, ◌<◌}
 use native.Mathlib.Omega.{arith}
 use lib.ListN.{length, get_or, set, take, drop}
 use lib.Seq.{split_at, set_split}
-use Rattle.ways.specs.Ways.{sums, walk, total, totals, deep, nothing, follow, spine, up, top, Copied}
+use Rattle.ways.specs.Ways.{sums, walk, total, totals, deep, follow, spine, up, top, Copied}
 use Rattle.ways.proofs.Frame.{sums_append, frame, frame_list, height}
 
 -- a sum, taken apart at a place

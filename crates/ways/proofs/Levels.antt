@@ -1,14 +1,14 @@
 -- Ways by their length: a way of d + 1 nodes leads down just when the d-th level below is not empty, as a list or as a set of units.
 -- Assumes nothing.
 use mathlib.Core.Path.{◌≡◌, refl, sym, ap, ◌∙◌, subst}
-use mathlib.Core.Bool.{Bool, true, false, ◌||◌, ◌&&◌}
-use mathlib.Core.Logic.{◌⊎◌, inl, inr, ⊎_elim, ◌↔◌}
-use mathlib.Core.List.{List, [], ◌∷◌, ◌++◌}
+use mathlib.Core.Bool.{Bool, false, ◌&&◌}
+use mathlib.Core.Logic.{⊎_elim, ◌↔◌}
+use mathlib.Core.List.{List, [], ◌∷◌}
 use Prim.Native.Nat.{ℕ, zero, suc, ◌+◌}
 use native.Mathlib.Omega.{arith}
 use lib.Dec.{T, eqb, eqb_refl, eqb→eq}
 use lib.ListN.{length}
-use Rattle.ways.specs.Ways.{sums, walk, deep, nothing, has, flat}
+use Rattle.ways.specs.Ways.{sums, walk, deep, has, flat}
 use Rattle.ways.specs.Levels.{levels, some_of, below, level_set}
 use Rattle.ways.proofs.Frame.{sums_cong, sums_flat}
 use Rattle.ways.proofs.Tests.{eq→not, and_l, and_r, and_i, or_e, or_l, or_r, iff_eq}

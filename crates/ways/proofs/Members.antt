@@ -1,13 +1,13 @@
 -- Members of lists, and how they are told by sums: nothing of graphs or stores. Assumes nothing.
-use mathlib.Core.Path.{◌≡◌, refl, sym, ap, ◌∙◌, subst}
-use mathlib.Core.Bool.{Bool, true, false, ◌||◌, ◌&&◌, not, cond, true≢false}
+use mathlib.Core.Path.{◌≡◌, refl, ap}
+use mathlib.Core.Bool.{Bool, true, false, ◌||◌}
 use mathlib.Core.Logic.{◌⊎◌, inl, inr, ⊎_elim}
 use mathlib.Core.List.{List, [], ◌∷◌, ◌++◌}
-use Prim.Native.Nat.{ℕ, zero, suc, ◌+◌, ◌≤◌, ◌<◌}
+use Prim.Native.Nat.{ℕ, ◌+◌, ◌<◌}
 use native.Mathlib.Omega.{arith}
-use lib.Dec.{T, eqb, eqb_refl, eqb→eq}
+use lib.Dec.{T, eqb, eqb_refl}
 use Rattle.ways.specs.Ways.{sums, is, one, has}
-use Rattle.ways.proofs.Tests.{T→eq, eq→T, F→eq, not→eq, eq→not, and_l, and_r, and_i, or_e, or_l, or_r, same?}
+use Rattle.ways.proofs.Tests.{T→eq, or_e, or_l, or_r}
 use Rattle.ways.proofs.Frame.{sums_append}
 
 -- ---- membership and numbers of places

@@ -1,6 +1,6 @@
 -- What stands d levels below a list of nodes: as a list, once for each way, and as a set of units.
 -- Assumes nothing.
-use Rattle.std.specs.Prelude.{ℕ, zero, suc, Bool, true, false, ◌||◌, ◌&&◌, List, [], ◌∷◌}
+use Rattle.std.specs.Prelude.{ℕ, zero, suc, Bool, false, ◌||◌, ◌&&◌, List, [], ◌∷◌}
 use Rattle.ways.specs.Ways.{has, flat}
 
 unfoldable pub levels : (ℕ → List ℕ) → ℕ → List ℕ → List ℕ

@@ -1,0 +1,6 @@
+use Rattle.counting.specs.Change.{drop_count}
+use Rattle.counting.proofs.drop_way.Goals as goal
+
+pub returns-clause-counts : goal.returns-clause-counts
+unfolding drop_count
+returns-clause-counts c = rw c.less-ways.ensures

@@ -1,0 +1,6 @@
+use Rattle.held_map.specs.Map.{held_in}
+use Rattle.held_map.proofs.has.Goals as goal
+
+pub returns : goal.returns
+unfolding held_in
+returns c = c.bit_at.ensures

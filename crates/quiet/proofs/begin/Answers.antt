@@ -1,0 +1,6 @@
+use Rattle.quiet.specs.Inputs.{begin_hold}
+use Rattle.quiet.proofs.begin.Goals as goal
+
+pub returns : goal.returns
+unfolding begin_hold
+returns c = rw (← c.begin_target-found.ensures, ← c.unit_of.ensures, ← c.read_node-n.ensures, ← c.part_of-part.ensures) c.write_input.ensures
