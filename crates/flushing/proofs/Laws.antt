@@ -1,10 +1,10 @@
 -- Flush where a right store stands: the tests agree with the rules, and an accepted flush leaves the next store standing. Assumes nothing.
-use mathlib.Core.Bool.{Bool, true, false, ◌||◌, ◌&&◌, not, cond}
-use mathlib.Core.Logic.{◌⊎◌, inl, inr, ⊎_elim}
+use mathlib.Core.Bool.{Bool, true, false, ◌&&◌, not}
+use mathlib.Core.Logic.{⊎_elim}
 use mathlib.Core.Path.{◌≡◌, refl, sym, ap, ap₂, ◌∙◌, subst}
 use mathlib.Core.List.{List, [], ◌∷◌, ◌++◌}
 use mathlib.Core.Option.{Option, none, some}
-use Prim.Native.Nat.{ℕ, zero, suc, ◌+◌, ◌-◌, ◌≤◌, ◌<◌}
+use Prim.Native.Nat.{ℕ, ◌+◌, ◌-◌, ◌≤◌, ◌<◌}
 use native.Mathlib.Omega.{arith}
 use lib.Dec.{T, eqb, leb, ltb}
 use lib.ListN.{length, get_or, take, drop, length-drop, take-append-drop}
@@ -12,15 +12,15 @@ use lib.Seq.{take_all}
 use borrow.Author.Tests.{ltb-true, eqb-true, leb-true, le-leb}
 use Rattle.units.specs.Limits.{last_unit, room}
 use Rattle.units.specs.Bodies.{indexes}
-use Rattle.ways.specs.Ways.{has, gone, follow, spine, sums, is}
+use Rattle.ways.specs.Ways.{has, follow, spine, is}
 use Rattle.ways.proofs.Tests.{T→eq, eq→T, and_l, and_r, or_e}
 use Rattle.ways.proofs.Frame.{sums_append}
 use Rattle.ways.proofs.Members.{pos_has}
-use Rattle.rules.specs.Tables.{all, slice, keys, puts, times, is_some, or_else}
-use Rattle.rules.specs.Store.{Node, Store, blank, node_at, children_of, buffers_of, ways, places, in_buffers, held, in_use}
-use Rattle.rules.specs.Steps.{accepted, Change, decide, change, extended, fit, fresh, small, path_shape, is_index, leads, leads_to, copies, flushed_offsets, flush_ends}
+use Rattle.rules.specs.Tables.{all, slice, puts, times, is_some, or_else}
+use Rattle.rules.specs.Store.{Node, Store, blank, node_at, children_of, ways, places, in_buffers, held, in_use}
+use Rattle.rules.specs.Steps.{accepted, decide, change, extended, fit, fresh, small, path_shape, is_index, leads, leads_to, copies, flushed_offsets, flush_ends}
 use Rattle.rules.specs.Right.{Right}
-use Rattle.right.proofs.Steps.{Even, Passed, passed, change_right}
+use Rattle.right.proofs.Steps.{Even, Passed, passed}
 use Rattle.right.proofs.Held.{fresh_unused}
 use Rattle.right.proofs.Lists.{times_take, has_take, all_get}
 use Rattle.right.proofs.Ledgers.{path_keys, flush_ledger}
@@ -48,7 +48,7 @@ use Rattle.allocation.proofs.Fresh.{fresh_is}
 use Rattle.allocation.proofs.Gains.{gains_fit_is}
 use Rattle.allocation.proofs.Going.{eight_low}
 use Rattle.allocation.proofs.Swept.{sweep_hold_eight, sweep_map_eight}
-use Rattle.pathed.specs.Pathed.{used_part, target_node, child_unit, child_node, leads_to_in, going_in, pathed_tree, pathed_counts, pathed_map}
+use Rattle.pathed.specs.Pathed.{target_node, child_unit, child_node, leads_to_in, going_in, pathed_tree, pathed_counts, pathed_map}
 use Rattle.pathed.proofs.PathEnd.{used_part_lem, used_low, even_parts, buffer_unit, buffers_low, leads_to_is, leads_first, target_node_lem, child_unit_lem, child_place, child_there, child_node_lem}
 use Rattle.pathed.proofs.Accepted.{coded_all, low_append, going_same, pathed_tree_lem, pathed_counts_lem, pathed_map_lem}
 use Rattle.pathed.proofs.Fit.{ends_move, fit_moved}

@@ -3,15 +3,14 @@
 use mathlib.Core.Bool.{Bool, true, false, ◌||◌, ◌&&◌, not, cond}
 use mathlib.Core.Path.{◌≡◌, refl, sym, ap, ap₂, ◌∙◌, subst}
 use mathlib.Core.List.{List, [], ◌∷◌, ◌++◌}
-use mathlib.Core.Option.{Option}
-use Prim.Native.Nat.{ℕ, zero, suc, ◌+◌, ◌-◌, ◌≤◌, ◌<◌}
+use Prim.Native.Nat.{ℕ, suc, ◌≤◌}
 use native.Mathlib.Omega.{arith}
-use lib.Dec.{T, eqb, leb, eqb_refl}
-use lib.ListN.{length, get_or, set, take}
+use lib.Dec.{T, eqb, eqb_refl}
+use lib.ListN.{length, get_or, take}
 use Rattle.units.specs.Limits.{last_unit, room}
 use Rattle.units.specs.Bodies.{indexes}
 use Rattle.ways.specs.Ways.{has, gone, follow, spine, top, is}
-use Rattle.ways.proofs.Tests.{and_l, and_r, and_i, or_l, or_r, not→eq, eq→not, F→eq, iff_eq}
+use Rattle.ways.proofs.Tests.{and_l, and_r, and_i, or_l, or_r, not→eq, eq→not, F→eq}
 use Rattle.ways.proofs.Members.{has_left, has_right}
 use Rattle.ways.proofs.Frame.{sums_append}
 use Rattle.rules.specs.Tables.{times, keys, puts, distinct}
@@ -25,7 +24,7 @@ use Rattle.right.proofs.Ledgers.{AtNode, at_node}
 use Rattle.right.proofs.After.{after_root, key_unit, drop_unit}
 use Rattle.records.specs.Rows.{eight}
 use Rattle.counting.specs.Nodes.{coded, put_node, root_read}
-use Rattle.counting.specs.Change.{add_trees, add_counts, drop_trees, drop_counts}
+use Rattle.counting.specs.Change.{add_trees, add_counts}
 use Rattle.counting.proofs.Counts.{Low}
 use Rattle.held_map.specs.Map.{mark}
 use Rattle.path.specs.Graph.{top_of, copied_tree}
@@ -39,7 +38,7 @@ use Rattle.state.proofs.Counts.{counts_adds}
 use Rattle.state.proofs.Maps.{map_same, map_holds}
 use Rattle.state.proofs.Changes.{Same, tree_after, ways_after}
 use Rattle.allocation.proofs.Going.{eight_times, eight_has, eight_low, let_go_map_lem}
-use Rattle.pathed.specs.Pathed.{spine_in, target_unit, copy_tree, put_nodes, come_counts, going, going_in, pathed_tree, pathed_counts, pathed_map}
+use Rattle.pathed.specs.Pathed.{spine_in, copy_tree, put_nodes, come_counts, going, going_in, pathed_tree, pathed_counts, pathed_map}
 use Rattle.pathed.proofs.PathEnd.{target_unit_lem}
 
 -- ---- lists

@@ -1,6 +1,6 @@
 -- What a sweep asks of the branches of a right store: each a few units, none at 0, and unit 0 is never held. Assumes nothing.
 use mathlib.Core.Bool.{Bool, true, false, ◌||◌, ◌&&◌, cond}
-use mathlib.Core.Path.{◌≡◌, refl, sym, ap, ap₂, ◌∙◌, subst}
+use mathlib.Core.Path.{◌≡◌, refl, sym, ap₂, subst}
 use mathlib.Core.List.{List, [], ◌∷◌, ◌++◌}
 use mathlib.Core.Option.{Option, none, some}
 use Prim.Native.Nat.{ℕ, ◌≤◌}

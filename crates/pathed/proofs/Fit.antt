@@ -1,14 +1,14 @@
 -- Line 12 of a step that copies a path: the copies have the buffers of the nodes on it, so that only the branches which gain at the path's
 -- end need a look. Assumes nothing.
-use mathlib.Core.Bool.{Bool, true, false, ◌&&◌}
+use mathlib.Core.Bool.{Bool, true, ◌&&◌}
 use mathlib.Core.Path.{◌≡◌, refl, sym, ap, ap₂, ◌∙◌, subst}
 use mathlib.Core.List.{List, [], ◌∷◌, ◌++◌}
-use Prim.Native.Nat.{ℕ, zero, suc, ◌+◌, ◌-◌, ◌≤◌, ◌<◌}
+use Prim.Native.Nat.{ℕ, ◌+◌, ◌-◌, ◌≤◌}
 use native.Mathlib.Omega.{arith}
 use lib.Dec.{T, leb}
 use lib.ListN.{length, get_or}
 use Rattle.units.specs.Limits.{last_unit, most_count}
-use Rattle.ways.specs.Ways.{sums, has, spine, is}
+use Rattle.ways.specs.Ways.{sums, has, spine}
 use Rattle.ways.proofs.Tests.{eq→T}
 use Rattle.ways.proofs.Frame.{sums_append}
 use Rattle.rules.specs.Tables.{all, times, keys}

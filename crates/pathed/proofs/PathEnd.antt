@@ -1,14 +1,14 @@
 -- The parts of a body that a path uses, and the path's end where a right store stands: line 6, the target and the child. Assumes nothing.
 use mathlib.Core.Bool.{Bool, true, false, ◌&&◌, not}
-use mathlib.Core.Path.{◌≡◌, refl, sym, ap, ap₂, ◌∙◌, subst}
+use mathlib.Core.Path.{◌≡◌, refl, sym, ap, ap₂, ◌∙◌}
 use mathlib.Core.List.{List, [], ◌∷◌}
 use mathlib.Core.Option.{Option, none, some}
-use Prim.Native.Nat.{ℕ, zero, suc, ◌+◌, ◌-◌, ◌≤◌, ◌<◌, min}
+use Prim.Native.Nat.{ℕ, zero, suc, ◌+◌, ◌≤◌, ◌<◌, min}
 use native.Mathlib.Omega.{arith}
 use lib.Dec.{T, eqb, ltb, eqb_refl}
 use lib.ListN.{length, get_or, take, drop, length-take, length-drop}
-use lib.Seq.{length-take-le, get_or-take, get_or-drop}
-use Rattle.units.specs.Limits.{last_unit, room}
+use lib.Seq.{length-take-le}
+use Rattle.units.specs.Limits.{last_unit}
 use Rattle.units.specs.Bodies.{indexes}
 use Rattle.ways.specs.Ways.{follow, has}
 use Rattle.ways.proofs.Tests.{T→eq, eq→T, or_l, or_r}
@@ -18,15 +18,15 @@ use Rattle.rules.specs.Steps.{valid, leads, leads_to}
 use Rattle.rules.specs.Right.{Sound}
 use Rattle.right.proofs.Ledger.{child_named, has_at}
 use Rattle.right.proofs.Ledgers.{AtNode, AtChild, at_node, at_child}
-use Rattle.records.specs.Rows.{AllBytes, eight}
+use Rattle.records.specs.Rows.{AllBytes}
 use Rattle.counting.specs.Nodes.{node_in, coded}
 use Rattle.counting.proofs.Counts.{Low}
 use Rattle.eights.proofs.Places.{eight_all, eight_alike}
 use Rattle.path.specs.Standing.{TreeIs}
 use Rattle.path.specs.Graph.{found, named}
 use Rattle.path.proofs.Paths.{node_in_lem}
-use Rattle.shapes.specs.Ends.{Fits, sound_fits}
-use Rattle.bodies.specs.Bodies.{used_of, target_in, unit_of, is_found}
+use Rattle.shapes.specs.Ends.{sound_fits}
+use Rattle.bodies.specs.Bodies.{used_of, unit_of, is_found}
 use Rattle.bodies.proofs.Bodies.{used_is, target_is}
 use Rattle.pathed.specs.Pathed.{used_part, target_unit, target_node, child_unit, child_node, leads_in, leads_to_in}
 

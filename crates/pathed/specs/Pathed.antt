@@ -2,7 +2,6 @@
 -- map after the copies and the new nodes have come, the old ones have lost a way each, and the root is the topmost copy. Assumes nothing.
 use Rattle.std.specs.Prelude.{Bool, ◌&&◌, List, [], ◌∷◌, ◌++◌, ℕ, ltb, length, get_or, set, take}
 use Rattle.units.specs.Bodies.{indexes}
-use Rattle.units.specs.declared.NodeUnit.{NodeUnit}
 use Rattle.ways.specs.Ways.{spine}
 use Rattle.rules.specs.Tables.{keys, slice}
 use Rattle.records.specs.Rows.{eight}

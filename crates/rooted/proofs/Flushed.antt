@@ -1,21 +1,21 @@
 -- Memtable flush over the arrays is memtable flush of the rules. Assumes nothing.
 use mathlib.Core.Path.{◌≡◌, refl, sym, ap, ap₂, ◌∙◌, subst}
 use mathlib.Core.Bool.{Bool, true, false, ◌||◌, ◌&&◌, not, cond}
-use mathlib.Core.Logic.{◌⊎◌, inl, inr, ⊎_elim}
-use mathlib.Core.List.{List, [], ◌∷◌, ◌++◌}
-use mathlib.Core.Option.{Option, none, some}
+use mathlib.Core.Logic.{⊎_elim}
+use mathlib.Core.List.{List, [], ◌∷◌}
+use mathlib.Core.Option.{some}
 use Prim.Native.Nat.{ℕ, ◌+◌, ◌≤◌, ◌<◌}
 use native.Mathlib.Omega.{arith}
-use lib.Dec.{T, eqb, leb, ltb, leb→le}
-use lib.ListN.{length, get_or, set, length-append}
+use lib.Dec.{T, eqb, ltb}
+use lib.ListN.{length, get_or, set}
 use borrow.Author.Tests.{eqb-true, ltb-true, eq-eqb, ne_eqb}
 use Rattle.units.specs.Limits.{last_unit, room, most_count, slot_count}
 use Rattle.ways.specs.Ways.{sums, is, one, has, gone}
 use Rattle.ways.proofs.Frame.{sums_append}
 use Rattle.ways.proofs.Tests.{T→eq, eq→T, and_l, and_r, or_e, same_or}
-use Rattle.rules.specs.Tables.{all, times, put, is_some, or_else}
-use Rattle.rules.specs.Store.{Node, Slot, empty, opened, sealed, Store, blank, node_at, slot_units, root_list, ways, places, in_buffers, in_use, held, alive}
-use Rattle.rules.specs.Steps.{Outcome, accepted, Change, extended, small, fresh, fit, decide, is_sealed, slot_at, root_node, Step, Memtable, change}
+use Rattle.rules.specs.Tables.{all, times, put, is_some}
+use Rattle.rules.specs.Store.{Node, Slot, empty, opened, sealed, Store, blank, node_at, root_list, ways, places, in_buffers, in_use, held, alive}
+use Rattle.rules.specs.Steps.{accepted, extended, small, fit, decide, is_sealed, slot_at, root_node, Step, Memtable, change}
 use Rattle.rules.specs.Right.{Right}
 use Rattle.right.specs.Ledger.{unused}
 use Rattle.right.proofs.Held.{fresh_unused}
@@ -37,18 +37,17 @@ use Rattle.state.proofs.Counts.{counts_adds}
 use Rattle.state.proofs.Maps.{map_same, map_holds}
 use Rattle.state.proofs.Changes.{tree_after, ways_after, places_after, gone_branch, hold_after, map_after}
 use Rattle.allocation.specs.Going.{let_go_maps}
-use Rattle.allocation.specs.Fresh.{fresh_in}
 use Rattle.allocation.proofs.Going.{and_true, let_go_map_lem}
 use Rattle.allocation.proofs.Fresh.{fresh_is}
-use Rattle.shapes.specs.Ends.{Fits, root_fits, buffer_last}
+use Rattle.shapes.specs.Ends.{root_fits, buffer_last}
 use Rattle.shapes.specs.Shapes.{with_buffer}
 use Rattle.shapes.specs.Questions.{room_for_buffer}
 use Rattle.shapes.proofs.Shapes.{with_buffer_lem}
 use Rattle.shapes.proofs.Questions.{room_for_buffer_lem}
 use Rattle.lines.specs.Lines.{tests_of, Agree}
-use Rattle.rooted.specs.Memtable.{root_node_in, is_sealed_in, first_in, joined_hold, memtable_tests, memtable_tree, memtable_counts, memtable_map}
+use Rattle.rooted.specs.Memtable.{root_node_in, first_in, joined_hold, memtable_tests, memtable_tree, memtable_counts, memtable_map}
 use Rattle.rooted.proofs.Slots.{units_in, slot_root, first_unit, no_place, branch_moves}
-use Rattle.rooted.proofs.Roots.{root_low, root_goes, root_is, root_coded}
+use Rattle.rooted.proofs.Roots.{root_goes, root_is, root_coded}
 
 -- ---- the tests
 

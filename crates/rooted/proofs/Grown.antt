@@ -1,20 +1,20 @@
 -- Grow over the arrays is grow of the rules. Assumes nothing.
 use mathlib.Core.Path.{◌≡◌, refl, sym, ap, ap₂, ◌∙◌, subst, fun_ext}
 use mathlib.Core.Bool.{Bool, true, false, ◌||◌, ◌&&◌, not, cond}
-use mathlib.Core.Logic.{◌⊎◌, inl, inr, ⊎_elim}
+use mathlib.Core.Logic.{⊎_elim}
 use mathlib.Core.List.{List, [], ◌∷◌}
 use mathlib.Core.Option.{Option, none, some}
 use Prim.Native.Nat.{ℕ, ◌+◌, ◌-◌, ◌*◌, ◌≤◌, ◌<◌}
 use native.Mathlib.Omega.{arith}
 use lib.Dec.{T, eqb, leb, ltb}
-use lib.ListN.{length, get_or, set, take, get_or-eq_default}
+use lib.ListN.{get_or, set, take, get_or-eq_default}
 use borrow.Author.Tests.{eqb-true, eqb-false, leb-true, leb-false, ltb-true}
 use Rattle.units.specs.Limits.{last_unit, longest}
-use Rattle.ways.specs.Ways.{sums, deep, has, gone}
+use Rattle.ways.specs.Ways.{sums, deep, has}
 use Rattle.ways.proofs.Tests.{T→eq, eq→T, and_l, and_r, or_e}
 use Rattle.rules.specs.Tables.{is_some, or_else}
-use Rattle.rules.specs.Store.{Node, Store, blank, node_at, children_of, root_list, ways, places, in_use, held, alive}
-use Rattle.rules.specs.Steps.{Outcome, accepted, Change, extended, fit, decide, grow_change, Step, Grow, change}
+use Rattle.rules.specs.Store.{Node, Store, blank, node_at, children_of, root_list, ways, places, in_use, held}
+use Rattle.rules.specs.Steps.{accepted, extended, fit, decide, Grow, change}
 use Rattle.rules.specs.Right.{Right}
 use Rattle.right.specs.Ledger.{unused}
 use Rattle.right.proofs.Held.{fresh_unused}
@@ -25,7 +25,7 @@ use Rattle.right.proofs.After.{extended_places, after_root}
 use Rattle.right.proofs.Still.{still_fit}
 use Rattle.held_map.specs.Map.{mark}
 use Rattle.records.specs.Rows.{eight_at}
-use Rattle.counting.specs.Nodes.{stride, coded, put_node, root_bytes}
+use Rattle.counting.specs.Nodes.{stride, coded, put_node}
 use Rattle.counting.specs.Graph.{children_in, children_in_lem}
 use Rattle.path.specs.Standing.{TreeIs}
 use Rattle.path.proofs.Trees.{tree_put, tree_root}

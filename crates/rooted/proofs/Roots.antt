@@ -1,18 +1,17 @@
 -- The root of a right store that stands in the tree: as code reads it, its node, and the one way to it that goes where another root
 -- comes. Assumes nothing.
-use mathlib.Core.Path.{◌≡◌, refl, sym, ap, ◌∙◌}
+use mathlib.Core.Path.{◌≡◌, refl, ap, ◌∙◌}
 use mathlib.Core.Bool.{Bool, true, false, cond}
 use mathlib.Core.List.{List, [], ◌∷◌}
-use mathlib.Core.Option.{Option}
 use Prim.Native.Nat.{ℕ, ◌≤◌}
 use native.Mathlib.Omega.{arith}
-use lib.Dec.{T, eqb}
+use lib.Dec.{eqb}
 use lib.ListN.{get_or}
 use borrow.Author.Tests.{eqb-true, ne_eqb}
 use Rattle.units.specs.Limits.{last_unit}
 use Rattle.ways.specs.Ways.{one, has}
 use Rattle.rules.specs.Tables.{times}
-use Rattle.rules.specs.Store.{Node, Store, blank, node_at, root_list}
+use Rattle.rules.specs.Store.{Store, blank, node_at, root_list}
 use Rattle.rules.specs.Steps.{root_node}
 use Rattle.rules.specs.Right.{Right}
 use Rattle.right.proofs.Ledger.{root_named}

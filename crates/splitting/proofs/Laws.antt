@@ -1,36 +1,32 @@
 -- Split where a right store stands: the tests agree with the rules, and an accepted split leaves the next store standing. Assumes nothing.
-use mathlib.Core.Bool.{Bool, true, false, ◌||◌, ◌&&◌, not, cond}
-use mathlib.Core.Logic.{◌⊎◌, inl, inr, ⊎_elim}
+use mathlib.Core.Bool.{Bool, true, false, ◌&&◌, not, cond}
+use mathlib.Core.Logic.{⊎_elim}
 use mathlib.Core.Path.{◌≡◌, refl, sym, ap, ap₂, ◌∙◌, subst}
 use mathlib.Core.List.{List, [], ◌∷◌, ◌++◌}
-use mathlib.Core.Option.{Option, none, some}
-use Prim.Native.Nat.{ℕ, zero, suc, ◌+◌, ◌-◌, ◌≤◌, ◌<◌}
+use Prim.Native.Nat.{ℕ, ◌-◌, ◌≤◌, ◌<◌}
 use native.Mathlib.Omega.{arith}
 use lib.Dec.{T, eqb, leb, ltb}
 use lib.ListN.{length, get_or, take}
-use borrow.Author.Tests.{ltb-true, lt-ltb, eqb-true, leb-true, le-leb, ne_eqb}
+use borrow.Author.Tests.{ltb-true, eqb-true}
 use Rattle.units.specs.Limits.{last_unit, room}
 use Rattle.units.specs.Bodies.{indexes}
-use Rattle.ways.specs.Ways.{has, gone, follow, spine, sums}
+use Rattle.ways.specs.Ways.{has, follow}
 use Rattle.ways.proofs.Tests.{T→eq, eq→T, and_l, and_r, or_e}
-use Rattle.rules.specs.Tables.{all, slice, keys, puts, times, is_some}
-use Rattle.rules.specs.Store.{Node, Store, node_at, children_of, buffers_of, ways, places, in_buffers, held, in_use, alive}
+use Rattle.rules.specs.Tables.{all, slice, puts, is_some}
+use Rattle.rules.specs.Store.{Node, Store, node_at, children_of, ways, places, held, in_use}
 use Rattle.rules.specs.Steps.{accepted, Change, decide, change, extended, fit, fresh, small, path_shape, is_index, leads_to, copies, split_ends}
 use Rattle.rules.specs.Right.{Right}
-use Rattle.right.specs.Counts.{added}
 use Rattle.right.proofs.Steps.{Even, Passed, passed}
 use Rattle.right.proofs.Held.{fresh_unused}
 use Rattle.right.proofs.Ledgers.{path_keys, split_ledger}
 use Rattle.right.proofs.Counts.{split_counts_lem}
 use Rattle.records.specs.Rows.{AllBytes, eight, eight_whole}
 use Rattle.counting.specs.Nodes.{coded}
-use Rattle.counting.specs.Places.{add_places, drop_places}
-use Rattle.counting.proofs.Counts.{Low}
+use Rattle.counting.specs.Places.{add_places}
 use Rattle.path.specs.Standing.{TreeIs}
 use Rattle.tables.specs.Hold.{HoldIs}
 use Rattle.lines.specs.Lines.{tests_of, Agree}
-use Rattle.shapes.specs.Ends.{Fits, sound_fits}
-use Rattle.shapes.specs.Shapes.{split_parent, left_of, right_of}
+use Rattle.shapes.specs.Ends.{sound_fits}
 use Rattle.shapes.specs.Questions.{split_share_fits, room_for_child}
 use Rattle.shapes.proofs.Shapes.{split_parent_lem, left_of_lem, right_of_lem}
 use Rattle.shapes.proofs.Questions.{split_share, copies_small, room_for_child_lem}
@@ -44,7 +40,7 @@ use Rattle.allocation.specs.Gains.{fits_count, gains_fit}
 use Rattle.allocation.proofs.Fresh.{fresh_is}
 use Rattle.allocation.proofs.Gains.{gains_fit_is}
 use Rattle.allocation.proofs.Going.{and_true, eight_low}
-use Rattle.pathed.specs.Pathed.{used_part, target_node, child_unit, child_node, leads_to_in, going_in, pathed_tree, pathed_counts, pathed_map}
+use Rattle.pathed.specs.Pathed.{target_node, child_unit, child_node, leads_to_in, going_in, pathed_tree, pathed_counts, pathed_map}
 use Rattle.pathed.proofs.PathEnd.{used_part_lem, used_low, even_parts, buffer_unit, buffers_low, leads_to_is, leads_first, target_node_lem, child_unit_lem, child_place, child_there, child_node_lem}
 use Rattle.pathed.proofs.Accepted.{coded_all, low_append, going_same, pathed_tree_lem, pathed_counts_lem, pathed_map_lem}
 use Rattle.pathed.proofs.Fit.{ends_move, fit_moved}

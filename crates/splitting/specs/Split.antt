@@ -2,7 +2,7 @@
 -- the child, its share, and the units of parent, left and right. Assumes nothing.
 use Rattle.std.specs.Prelude.{Bool, true, ◌&&◌, List, [], ◌∷◌, ◌++◌, ℕ, ◌-◌, get_or}
 use Rattle.units.specs.Bodies.{indexes}
-use Rattle.rules.specs.Tables.{slice, keys}
+use Rattle.rules.specs.Tables.{slice}
 use Rattle.rules.specs.Steps.{is_index, path_shape, Step, Split}
 use Rattle.counting.specs.declared.Node.{Node}
 use Rattle.counting.specs.Places.{add_places}

@@ -1,20 +1,18 @@
 -- What the answers' numbers say, and that the empty store stands in zeros. Assumes nothing.
-use mathlib.Core.Path.{◌≡◌, refl, sym, ap, ◌∙◌, subst}
-use mathlib.Core.Bool.{Bool, true, false}
-use mathlib.Core.List.{List, [], ◌∷◌}
-use Prim.Native.Nat.{ℕ, zero, suc, ◌+◌, ◌≤◌, ◌<◌}
+use mathlib.Core.Path.{◌≡◌, refl, sym}
+use mathlib.Core.Bool.{false}
+use Prim.Native.Nat.{ℕ, zero, suc, ◌≤◌}
 use native.Mathlib.Omega.{arith}
-use lib.ListN.{get_or, replicate}
-use Rattle.units.specs.declared.Refusal.{Refusal}
+use lib.ListN.{replicate}
 use Rattle.units.specs.declared.Refusal.TheVariants.{CountTooHigh}
 use Rattle.units.specs.Refusals.{number_of}
-use Rattle.rules.specs.Store.{Store, empty_store, units, held_units, held}
+use Rattle.rules.specs.Store.{empty_store, units, held_units, held}
 use Rattle.path.specs.Standing.{tree_length}
 use Rattle.path.proofs.Trees.{tree_empty}
 use Rattle.tables.specs.Hold.{hold_length}
 use Rattle.tables.proofs.Kept.{hold_empty}
 use Rattle.held_map.specs.Map.{empty_map}
-use Rattle.state.specs.Standing.{MapIs, counts_length}
+use Rattle.state.specs.Standing.{counts_length}
 use Rattle.state.specs.Stands.{Arrays, Stands}
 use Rattle.state.proofs.Counts.{counts_empty}
 use Rattle.state.proofs.Maps.{map_empty, map_same}

@@ -2,27 +2,25 @@
 use mathlib.Core.Path.{◌≡◌, refl, sym, ap, ◌∙◌, subst}
 use mathlib.Core.Bool.{Bool, true, false, ◌&&◌}
 use mathlib.Core.List.{List, [], ◌∷◌, ◌++◌}
-use Prim.Native.Nat.{ℕ, zero, suc, ◌+◌, ◌≤◌, ◌<◌}
+use Prim.Native.Nat.{ℕ, zero, suc, ◌+◌, ◌≤◌}
 use native.Mathlib.Omega.{arith}
 use lib.Dec.{eqb, leb}
 use lib.ListN.{length, get_or, drop}
 use Rattle.units.specs.Limits.{last_unit, last_kind}
 use Rattle.units.specs.Bodies.{body_length}
-use Rattle.units.specs.declared.Refusal.{Refusal}
 use Rattle.rules.specs.Store.{Store, held, frees}
 use Rattle.rules.specs.Steps.{Outcome, accepted, refused, Change, decide, step_in}
 use Rattle.rules.specs.Right.{Right}
 use Rattle.right.specs.Runs.{change_of}
-use Rattle.right.proofs.Demands.{step_in_right, frees_fit}
-use Rattle.held_map.specs.Map.{held_in, gone}
+use Rattle.right.proofs.Demands.{step_in_right}
+use Rattle.held_map.specs.Map.{gone}
 use Rattle.held_map.proofs.Frees.{Holds, gone_frees}
 use Rattle.lines.specs.Lines.{unless, first_of, numbered, head_of, number, tests_of, Agree}
 use Rattle.lines.proofs.Lines.{head_pass, head_stop, agree_number, accepted_of, refused_of, line_positive}
 use Rattle.state.specs.Standing.{MapIs}
 use Rattle.state.specs.Stands.{Arrays, Stands}
-use Rattle.step.specs.declared.Answer.{Answer}
 use Rattle.step.specs.declared.Answer.TheVariants.{Accepted, Refused}
-use Rattle.step.specs.Answers.{answer_number, refusal_of}
+use Rattle.step.specs.Answers.{refusal_of}
 use Rattle.step.specs.Promise.{Kept, Stepped}
 use Rattle.step.proofs.Answers.{number_back}
 

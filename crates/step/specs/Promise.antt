@@ -1,5 +1,5 @@
 -- What a step over the lent arrays promises, for every input. Assumes nothing.
-use Rattle.std.specs.Prelude.{◌≡◌, List, [], ◌∷◌, ◌++◌, ℕ, length, drop}
+use Rattle.std.specs.Prelude.{◌≡◌, List, ◌++◌, ℕ, length, drop}
 use Rattle.units.specs.declared.Refusal.{Refusal}
 use Rattle.rules.specs.Store.{Store, frees}
 use Rattle.rules.specs.Steps.{Outcome, accepted, refused, step_in}
