@@ -1,12 +1,11 @@
 -- The loop and the tests behind `head` and `first_line`, and what the numbers say of the rules. Assumes nothing.
-use mathlib.Core.Path.{◌≡◌, refl, sym, ap, ◌∙◌, subst}
-use mathlib.Core.Bool.{Bool, true, false, ◌&&◌, not, true≢false}
-use mathlib.Core.Logic.{◌⊎◌, inl, inr, ⊎_elim}
+use mathlib.Core.Path.{◌≡◌, refl, sym, ap, ◌∙◌}
+use mathlib.Core.Bool.{Bool, true, false, ◌&&◌, not}
 use mathlib.Core.List.{List, [], ◌∷◌}
-use Prim.Native.Nat.{ℕ, zero, suc, ◌+◌, ◌-◌, ◌≤◌, ◌<◌}
+use Prim.Native.Nat.{ℕ, zero, suc, ◌+◌, ◌≤◌, ◌<◌}
 use native.Mathlib.Omega.{arith}
 use native.Mathlib.Numerals.{add-one}
-use lib.Dec.{T, eqb, leb}
+use lib.Dec.{eqb, leb}
 use lib.ListN.{length, get_or, drop}
 use lib.Seq.{drop-cons}
 use borrow.Author.Tests.{le-leb, lt-leb, eq-eqb, ne_eqb}
@@ -15,7 +14,7 @@ use Rattle.units.specs.Bodies.{body_length}
 use Rattle.rules.specs.Tables.{all}
 use Rattle.rules.specs.Store.{Store}
 use Rattle.rules.specs.Steps.{Outcome, accepted, refused, Change, need, next, small, fresh, fit, extended, decide, step, step_in}
-use Rattle.right.specs.Runs.{lines_of, change_of, table}
+use Rattle.right.specs.Runs.{lines_of, change_of}
 use Rattle.lines.specs.Lines.{unless, first_of, numbered, head_of, number, tests_of, Agree}
 
 -- ---- the first test that fails
