@@ -161,7 +161,7 @@ module _ (s : Store) (r : Right s) (m : Step) (ev : Even m) (s' : Store) (e : de
         && not (some_of (λ b. (eqb (places s' b) 0 && not (in_use (change s m).inputs b)) && has v (or_else [] (puts s.branches (change s m).joins b))) cs)) map
         → MapIs (held s') map
     unfolding dead
-    map_after map ds d moved Units-in i = map_same _ (held s') map at i
+    map_after map ds d moved in_unit i = map_same _ (held s') map at i
       where
         some_same : (v : ℕ) → some_of (λ b. (eqb (places s' b) 0 && not (in_use (change s m).inputs b)) && has v (or_else [] (puts s.branches (change s m).joins b))) cs
             ≡ some_of (λ b. dead s r m ev s' e b && has v (or_else [] (puts s.branches (change s m).joins b))) units
@@ -184,7 +184,7 @@ module _ (s : Store) (r : Right s) (m : Step) (ev : Even m) (s' : Store) (e : de
             there t =
                 let w = some_has f cs t in
                 let b = w.0 in
-                let o = Units-in b (there_is (puts s.branches (change s m).joins b) (and_r (eqb (places s' b) 0 && not (in_use (change s m).inputs b)) (has v (or_else [] (puts s.branches (change s m).joins b))) w.2)) in
+                let o = in_unit b (there_is (puts s.branches (change s m).joins b) (and_r (eqb (places s' b) 0 && not (in_use (change s m).inputs b)) (has v (or_else [] (puts s.branches (change s m).joins b))) w.2)) in
                 has_some g units b (has_unit b o.0 o.1) (subst (λ (x : Bool). T x) (same b) w.2)
 
             back : T (some_of g units) → T (some_of f cs)
