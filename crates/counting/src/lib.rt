@@ -213,6 +213,15 @@ pub fn drop_place(counts: &mut [u16; 512], b: BranchRoot)
     counts[at] = places;
 }
 
+// The places from, from + 1, .. below `to`, of eight.
+pub fn part(places: &[u8; 8], from: u8, to: u8) -> &[u8]
+    ensures { result.now ≡ slice from (to - from) places.now }
+{
+    let end = usize::from(to).min(8);
+    let start = usize::from(from).min(end);
+    &places[start..end]
+}
+
 // A node has eight places.
 pub fn up_to(to: u8) -> usize
     ensures { (result ≤ room) × (result ≡ up_to to) }
