@@ -2,7 +2,7 @@
 use mathlib.Core.Path.{◌≡◌, refl, ap, ap₂}
 use mathlib.Core.Bool.{Bool, ◌&&◌}
 use mathlib.Core.List.{List, [], ◌∷◌}
-use Prim.Native.Nat.{ℕ, zero, suc, ◌-◌, ◌≤◌}
+use Prim.Native.Nat.{ℕ, zero, suc, ◌≤◌}
 use lib.ListN.{take, drop}
 use Rattle.units.specs.Limits.{last_unit}
 use Rattle.rules.specs.Tables.{all, slice}
@@ -29,9 +29,7 @@ pub low_slice : (a n : ℕ) (l : List ℕ) → Low l → Low (slice a n l)
 low_slice a n l low = low_take n (drop a l) (low_drop a l low)
 
 -- line 12, of the branches that gain
-pub gains_fit_is : (w p : ℕ → ℕ) (counts bs : List ℕ) (gc from to : ℕ) → CountsAre w p counts → Low bs
-    → gains_fit counts bs gc from to ≡ all (λ b. fits_count (p b) (slice from (to - from) bs) (take gc bs) b) (slice from (to - from) bs)
+pub gains_fit_is : (w p : ℕ → ℕ) (counts gs ls : List ℕ) → CountsAre w p counts → Low gs → gains_fit counts gs ls ≡ all (λ b. fits_count (p b) gs ls b) gs
 unfolding gains_fit gain_fits
-gains_fit_is w p counts bs gc from to c low =
-    all_same (gain_fits counts bs gc from to) (λ b. fits_count (p b) (slice from (to - from) bs) (take gc bs) b) (slice from (to - from) bs) (low_slice from (to - from) bs low)
-    (λ b h. ap (λ (k : ℕ). fits_count k (slice from (to - from) bs) (take gc bs) b) (c.place b h))
+gains_fit_is w p counts gs ls c low =
+    all_same (gain_fits counts gs ls) (λ b. fits_count (p b) gs ls b) gs low (λ b h. ap (λ (k : ℕ). fits_count k gs ls b) (c.place b h))

@@ -5,21 +5,24 @@ use mathlib.Core.List.{List, [], ◌∷◌}
 use Prim.Native.Nat.{ℕ, ◌+◌, ◌-◌, ◌≤◌, ◌<◌}
 use native.Mathlib.Omega.{arith}
 use native.Mathlib.Numerals.{add-one}
-use lib.Dec.{eqb, leb, ltb}
-use lib.ListN.{length, get_or, take, drop, length-drop, length-take, drop_of_length-le}
+use lib.Dec.{eqb, leb}
+use lib.ListN.{length, get_or, drop, drop_of_length-le}
 use lib.Seq.{drop-cons}
-use borrow.Author.Tests.{ltb-true, ltb-false, le-leb, lt-leb}
+use Rattle.std.specs.Prelude.{◌==◌}
+use Rattle.std.specs.List.{count_by}
+use Rattle.std.proofs.lemmas.List.Sums.{count_by-le-length}
+use Rattle.std.proofs.lemmas.List.Recursion.{is_count_by}
+use borrow.Author.Tests.{leb-true, leb-false, le-leb, lt-leb}
 use Rattle.units.specs.Limits.{room, most_count}
 use Rattle.ways.specs.Ways.{one}
-use Rattle.rules.specs.Tables.{all, times, slice}
+use Rattle.rules.specs.Tables.{times}
 use Rattle.held_map.specs.Map.{held_in, mark}
 use Rattle.counting.specs.Change.{drop_tree, drop_count, drop_trees, drop_counts}
-use Rattle.counting.specs.Places.{place_of, up_to}
-use Rattle.counting.proofs.Each.{run_start, run_turn, run_end}
+use Rattle.counting.specs.Places.{place_of}
 use Rattle.state.specs.Standing.{marks}
 use Rattle.allocation.specs.Going.{let_go_map, let_go_maps}
 use Rattle.allocation.specs.Fresh.{new_in, fresh_in, fresh_marks}
-use Rattle.allocation.specs.Gains.{gain_fits, gains_fit}
+use Rattle.allocation.specs.Gains.{gain_fits}
 use Rattle.allocation.specs.Sweep.{swept_hold, swept_map, sweep_hold, sweep_map}
 
 -- ---- over a list from place i on
@@ -122,95 +125,33 @@ module _ (m : List ℕ) (u : ℕ) where
   pub new_both : eqb u 0 ≡ false → held_in m u ≡ false → new_in m u ≡ true
   new_both e h = rw (e, h) refl
 
--- ---- over a run of eight places
-
-at_most : (t : Bool) → one t ≤ 1
-at_most true = omega arith
-at_most false = omega arith
-
-times_few : (b : ℕ) (l : List ℕ) → times b l ≤ length l
-times_few b [] = omega arith
-times_few b (x ∷ l) = omega (arith, at_most (eqb x b), times_few b l)
-
-pub run_few : (bs : List ℕ) (from n b : ℕ) → length bs ≡ room → times b (slice from n bs) ≤ room
-run_few bs from n b e = omega (arith, times_few b (slice from n bs), length-take n (drop from bs), length-drop from bs)
-
-module _ {A : Type 0} (f : List ℕ → A) (bs : List ℕ) where
-  pub run_from : (from to end : ℕ) → length bs ≡ room → end ≡ up_to to → f (slice from (end - from) bs) ≡ f (slice from (to - from) bs)
-  run_from from to end h e = rw (e, run_start bs from to h) refl
-
-  pub run_next : (i end : ℕ) (a : A) → i < end → end ≤ length bs → f (slice i (end - i) bs) ≡ a → f (get_or bs i 0 ∷ slice (i + 1) (end - (i + 1)) bs) ≡ a
-  run_next i end a p q h = ap f (sym (run_turn bs i end p q)) ∙ h
-
-  pub run_last : (i end : ℕ) (a : A) → end ≤ i → f (slice i (end - i) bs) ≡ a → f [] ≡ a
-  run_last i end a p h = ap f (sym (run_end bs i end p)) ∙ h
-
--- the members counted so far, and those that are left
-pub record TimesLoop (bs : List ℕ) (b : ℕ) (whole end n i : ℕ) : Type 0 where
-  pub eight : length bs ≡ room
-  pub short : end ≤ room
-  pub few : n ≤ i
-  pub left : n + times b (slice i (end - i) bs) ≡ whole
-
-pub times_turn : {bs : List ℕ} {b whole end n i n' : ℕ} → TimesLoop bs b whole end n i → i < end → n' ≡ n + one (eqb (get_or bs i 0) b) → TimesLoop bs b whole end n' (i + 1)
-times_turn {bs} {b} {whole} {end} {n} {i} l q e =
-    record {
-      eight = l.eight;
-      short = l.short;
-      few = omega (arith, l.few, at_most (eqb (get_or bs i 0) b));
-      left = omega (arith, e, run_next (λ (us : List ℕ). n + times b us) bs i end whole q (omega (arith, l.eight, l.short)) l.left);
-    }
-
-pub times_end : {bs : List ℕ} {b whole end n i : ℕ} → TimesLoop bs b whole end n i → end ≤ i → n ≡ whole
-times_end {bs} {b} {whole} {end} {n} {i} l q = omega (arith, run_last (λ (us : List ℕ). n + times b us) bs i end whole q l.left)
-
--- whether all of a run pass
-module _ (f : ℕ → Bool) (bs : List ℕ) (i end : ℕ) (a : Bool) (h : all f (slice i (end - i) bs) ≡ a) where
-  all_next : (b : Bool) → i < end → end ≤ length bs → f (get_or bs i 0) ≡ b → (b && all f (slice (i + 1) (end - (i + 1)) bs)) ≡ a
-  all_next b p q e = sym (ap (λ (b : Bool). b && all f (slice (i + 1) (end - (i + 1)) bs)) e) ∙ run_next (all f) bs i end a p q h
-
-  pub all_no : i < end → end ≤ length bs → f (get_or bs i 0) ≡ false → false ≡ a
-  all_no p q e = all_next false p q e
-
-  pub all_turn : i < end → end ≤ length bs → f (get_or bs i 0) ≡ true → all f (slice (i + 1) (end - (i + 1)) bs) ≡ a
-  all_turn p q e = all_next true p q e
-
-  pub all_end : end ≤ i → true ≡ a
-  all_end p = run_last (all f) bs i end a p h
-
 -- ---- one count
 
--- eight places more are still a count
-pub gain_low : (counts bs : List ℕ) (gc from to b : ℕ) (places : ℕ) → length bs ≡ room → places ≡ get_or counts (place_of b) 0 → places + room ≤ most_count → false ≡ not (gain_fits counts bs gc from to b)
-unfolding gain_fits
-gain_low counts bs gc from to b places n e h =
-    ap not (sym (le-leb ((get_or counts (place_of b) 0 + times b (slice from (to - from) bs)) - times b (take gc bs)) most_count (omega (arith, run_few bs from (to - from) b n))))
+-- the places of b by the library's count
+by_one : (t : Bool) (n : ℕ) → one t + n ≡ cond t (1 + n) n
+by_one true n = refl
+by_one false n = omega arith
 
-pub gain_test : (counts bs : List ℕ) (gc from to b places more less : ℕ) (r : Bool) → places ≡ get_or counts (place_of b) 0 → more ≡ times b (slice from (to - from) bs) → less ≡ times b (slice 0 (gc - 0) bs)
-    → r ≡ not (leb ((places + more) - less) most_count) → r ≡ not (gain_fits counts bs gc from to b)
-unfolding gain_fits
-gain_test counts bs gc from to b places more less r ep em el er =
-    let z : gc - 0 ≡ gc = omega arith in
-    let e : less ≡ times b (take gc bs) = el ∙ ap (λ (n : ℕ). times b (slice 0 n bs)) z in
-    rw (er, ep, em, e) refl
+pub times_counted : (b : ℕ) (l : List ℕ) → count_by (λ x. x == b) l ≡ times b l
+times_counted b l = sym (is_count_by (times b) (λ x. x == b) refl (λ x xs. by_one (x == b) (times b xs)) l)
 
-pub gains_start : (counts bs : List ℕ) (gc from to end : ℕ) → length bs ≡ room → end ≡ up_to to → all (gain_fits counts bs gc from to) (slice from (end - from) bs) ≡ gains_fit counts bs gc from to
-unfolding gains_fit
-gains_start counts bs gc from to end h e = run_from (all (gain_fits counts bs gc from to)) bs from to end h e
+times_few : (b : ℕ) (l : List ℕ) → times b l ≤ length l
+times_few b l = rw (← times_counted b l) (count_by-le-length (λ x. x == b) l)
 
--- a test found true or false
-pub not_true : (a r : Bool) → r ≡ not a → r ≡ true → a ≡ false
-not_true true r e q = absurd (let y : ◌≡◌ {A = ℕ} 0 1 = cc in omega arith)
-not_true false r e q = refl
-
-pub not_false : (a r : Bool) → r ≡ not a → r ≡ false → a ≡ true
-not_false true r e q = refl
-not_false false r e q = absurd (let y : ◌≡◌ {A = ℕ} 0 1 = cc in omega arith)
-
--- a count that gains and then loses, without a difference
-pub above_test : (p m l : ℕ) → ltb (most_count + l) (p + m) ≡ not (leb ((p + m) - l) most_count)
-above_test p m l = go (ltb (most_count + l) (p + m)) refl
+-- two tests that pass alike
+tests_same : (a b c d : ℕ) → (a ≤ b → c ≤ d) → (b < a → d < c) → leb a b ≡ leb c d
+tests_same a b c d up over = go (leb a b) refl
   where
-    go : (b : Bool) → ltb (most_count + l) (p + m) ≡ b → b ≡ not (leb ((p + m) - l) most_count)
-    go true e = ap not (sym (lt-leb ((p + m) - l) most_count (omega (arith, ltb-true (most_count + l) (p + m) e))))
-    go false e = ap not (sym (le-leb ((p + m) - l) most_count (omega (arith, ltb-false (most_count + l) (p + m) e))))
+    go : (t : Bool) → leb a b ≡ t → t ≡ leb c d
+    go true e = sym (le-leb c d (up (leb-true a b e)))
+    go false e = sym (lt-leb c d (over (leb-false a b e)))
+
+-- a count that gains and then loses, by the room above it; it gains no more than the list has
+module _ (counts gs ls : List ℕ) (b places room : ℕ) (e : places ≡ get_or counts (place_of b) 0) (r : room ≡ most_count - places) (low : places ≤ most_count) where
+  pub gain_few : length gs ≤ room → leb (length gs) room ≡ gain_fits counts gs ls b
+  unfolding gain_fits
+  gain_few h = rw (← e) (tests_same (length gs) room ((places + times b gs) - times b ls) most_count (λ q. omega (arith, times_few b gs)) (λ q. omega arith))
+
+  pub gain_test : leb (times b gs) (room + times b ls) ≡ gain_fits counts gs ls b
+  unfolding gain_fits
+  gain_test = rw (← e) (tests_same (times b gs) (room + times b ls) ((places + times b gs) - times b ls) most_count (λ q. omega arith) (λ q. omega arith))

@@ -2,10 +2,8 @@
 // that units are fresh, the test of the counts after a step, and the sweep of dead branches. Every function is right on any arrays.
 #![tactic(auto)]
 
-ghost use Rattle.std.specs.Prelude.{not, ◌≡◌, ◌+◌, ◌-◌, ◌<◌, eqb, leb};
-ghost use Rattle.units.specs.Limits.{most_count};
-ghost use Rattle.ways.specs.Ways.{one};
-ghost use Rattle.rules.specs.Tables.{times, slice};
+ghost use Rattle.std.specs.Prelude.{◌≡◌, ◌≤◌, [], ◌∷◌, length};
+ghost use Rattle.rules.specs.Tables.{times};
 ghost use Rattle.counting.specs.Change.{drop_tree, drop_count, drop_trees, drop_counts};
 ghost use Rattle.state.specs.Standing.{marks};
 ghost use Rattle.allocation.specs.Going.{let_go_map, let_go_maps, cleared_if};
@@ -13,7 +11,7 @@ ghost use Rattle.allocation.specs.Fresh.{fresh_in, fresh_marks};
 ghost use Rattle.allocation.specs.Gains.{gain_fits, gains_fit};
 ghost use Rattle.allocation.specs.Sweep.{dead_in, swept_hold, swept_map, sweep_hold, sweep_map};
 
-use units::{BranchRoot, NodeUnit};
+use units::{BranchRoot, Count, NodeUnit};
 
 // ---- ways that go
 
@@ -31,9 +29,8 @@ pub fn let_go(tree: &mut [u8; 6656], counts: &mut [u16; 512], map: &mut [u64; 4]
     ensures counts { counts.new ≡ drop_count counts.old u.0 }
     ensures map { map.new ≡ let_go_map map.old counts.old u.0 }
 {
-    let unit = u.0;
     let died = counting::drop_way(tree, counts, u);
-    release_if(map, unit, died);
+    release_if(map, u.0, died);
 }
 
 // One way to each of the eight goes. Unit 0 is no node's.
@@ -42,10 +39,8 @@ pub fn let_go_eight(tree: &mut [u8; 6656], counts: &mut [u16; 512], map: &mut [u
     ensures counts { counts.new ≡ drop_counts counts.old us }
     ensures map { map.new ≡ let_go_maps map.old counts.old us }
 {
-    let mut i = 0;
-    while i < 8 {
-        let_go(tree, counts, map, NodeUnit(us[i]));
-        i += 1;
+    for u in us {
+        let_go(tree, counts, map, NodeUnit(u));
     }
 }
 
@@ -54,11 +49,16 @@ pub fn let_go_eight(tree: &mut [u8; 6656], counts: &mut [u16; 512], map: &mut [u
 pub fn hold_run(map: &mut [u64; 4], us: &[u8])
     ensures { map.new ≡ marks map.old us.now }
 {
-    let mut i = 0;
-    while i < us.len() {
-        held_map::hold(map, us[i]);
-        i += 1;
+    for &u in us {
+        held_map::hold(map, u);
     }
+}
+
+// Whether a unit is not 0 and not held.
+pub fn is_fresh(map: &[u64; 4], u: u8) -> bool
+    ensures { result ≡ fresh_in map.now (u ∷ []) }
+{
+    u != 0 && !held_map::has(map, u)
 }
 
 // Whether no unit of the run is 0, in the map, or named twice; the units looked at come into the map up to the first that is.
@@ -66,80 +66,37 @@ pub fn fresh_run(seen: &mut [u64; 4], us: &[u8]) -> bool
     ensures answer { result ≡ fresh_in seen.old us.now }
     ensures seen { seen.new ≡ fresh_marks seen.old us.now }
 {
-    let mut i = 0;
-    while i < us.len() {
-        let u = us[i];
-        if u == 0 {
-            return false;
-        }
-        if held_map::has(seen, u) {
+    for &u in us {
+        if !is_fresh(seen, u) {
             return false;
         }
         held_map::hold(seen, u);
-        i += 1;
     }
     true
 }
 
 // ---- counts after a step
 
-fn plus_if_same(n: u8, a: u8, b: u8) -> u8
-    requires { n < 255 }
-    ensures { result ≡ n + one (eqb a b) }
+// How often b stands in the list.
+fn occurrences(bs: &[u8], b: u8) -> usize
+    ensures { (result ≡ times b bs.now) × (result ≤ length bs.now) }
 {
-    if a == b {
-        return n + 1;
-    }
-    n
+    bs.iter().filter(|x| **x == b).count()
 }
 
-// How often b stands at the places from, from + 1, .. below `to`.
-pub fn occurrences(bs: [u8; 8], from: u8, to: u8, b: u8) -> u8
-    ensures { result ≡ times b (slice from (to - from) bs) }
+// Whether the count of b, which gains and then loses, is one. It gains no more places than the list has, so that few lists are searched.
+fn gain_fits(counts: &[u16; 512], gains: &[u8], losses: &[u8], b: u8) -> bool
+    ensures { result ≡ gain_fits counts.now gains.now losses.now b }
 {
-    let end = counting::up_to(to);
-    let mut n: u8 = 0;
-    let mut i = from as usize;
-    while i < end {
-        n = plus_if_same(n, bs[i], b);
-        i += 1;
-    }
-    n
+    let room = usize::from(Count::MOST - counting::places_of(counts, BranchRoot(b)));
+    gains.len() <= room || occurrences(gains, b) <= room + occurrences(losses, b)
 }
 
-// Whether a count that gains and then loses is over the highest.
-fn above(places: u16, more: u8, less: u8) -> bool
-    ensures { result ≡ not (leb ((places + more) - less) most_count) }
+// Whether each branch that gains places stays a count, where it gains these and then loses those.
+pub fn gains_fit(counts: &[u16; 512], gains: &[u8], losses: &[u8]) -> bool
+    ensures { result ≡ gains_fit counts.now gains.now losses.now }
 {
-    places as u32 + more as u32 > 65535 + less as u32
-}
-
-// A list has eight places, so that a count below 65528 needs no look at them.
-fn gain_too_high(counts: &[u16; 512], bs: [u8; 8], gc: u8, from: u8, to: u8, b: u8) -> bool
-    ensures { result ≡ not (gain_fits counts.now bs gc from to b) }
-{
-    let places = counting::places_of(counts, BranchRoot(b));
-    if places <= 65527 {
-        return false;
-    }
-    let more = occurrences(bs, from, to, b);
-    let less = occurrences(bs, 0, gc, b);
-    above(places, more, less)
-}
-
-// Whether the branches at the places from, from + 1, .. below `to` stay counts where each gains these places and loses the first gc.
-pub fn gains_fit(counts: &[u16; 512], bs: [u8; 8], gc: u8, from: u8, to: u8) -> bool
-    ensures { result ≡ gains_fit counts.now bs gc from to }
-{
-    let end = counting::up_to(to);
-    let mut i = from as usize;
-    while i < end {
-        if gain_too_high(counts, bs, gc, from, to, bs[i]) {
-            return false;
-        }
-        i += 1;
-    }
-    true
+    gains.iter().all(|b| gain_fits(counts, gains, losses, *b))
 }
 
 // ---- dead branches
@@ -148,13 +105,7 @@ pub fn gains_fit(counts: &[u16; 512], bs: [u8; 8], gc: u8, from: u8, to: u8) -> 
 fn dead(counts: &[u16; 512], hold: &[u8; 2380], b: BranchRoot) -> bool
     ensures { result ≡ dead_in counts.now hold.now b.0 }
 {
-    if counting::places_of(counts, b) != 0 {
-        return false;
-    }
-    if tables::in_use(hold, b) {
-        return false;
-    }
-    true
+    counting::places_of(counts, b) == 0 && !tables::in_use(hold, b)
 }
 
 // A branch that is dead goes, and its units with it.
@@ -164,8 +115,7 @@ pub fn sweep_one(counts: &[u16; 512], hold: &mut [u8; 2380], map: &mut [u64; 4],
 {
     if dead(counts, hold, b) {
         let x = tables::read_branch(hold, b);
-        let us = x.units;
-        held_map::release_eight(map, us);
+        held_map::release_eight(map, x.units);
         tables::blank_branch(hold, b);
     }
 }
@@ -175,9 +125,7 @@ pub fn sweep(counts: &[u16; 512], hold: &mut [u8; 2380], map: &mut [u64; 4], roo
     ensures hold { hold.new ≡ sweep_hold counts.now hold.old roots }
     ensures map { map.new ≡ sweep_map counts.now hold.old map.old roots }
 {
-    let mut i = 0;
-    while i < 8 {
-        sweep_one(counts, hold, map, BranchRoot(roots[i]));
-        i += 1;
+    for b in roots {
+        sweep_one(counts, hold, map, BranchRoot(b));
     }
 }

@@ -30,7 +30,7 @@ module _ (tree counts map b : List ℕ) (k : ℕ) (ends : Ends) (offset : ℕ) (
       → shp ≡ path_shape (get_or b 0 0) (slice 1 indexes b) (slice 8 indexes b) → idx ≡ is_index (get_or b 15 0) → shape ≡ (shp && idx)
       → range ≡ gc_fits ends.node (get_or b 15 0) (get_or b 16 0) → small ≡ flush_room ends.node ends.below (get_or b 15 0)
       → fresh ≡ fresh_in map (take k (slice 8 indexes b) ++ flush_units b)
-      → fit ≡ gains_fit counts ends.node.buffers (get_or b 16 0) offset ends.node.buffer_number
+      → fit ≡ gains_fit counts (slice offset (ends.node.buffer_number - offset) ends.node.buffers) (slice 0 (get_or b 16 0 - 0) ends.node.buffers)
       → shape ∷ true ∷ ends.leads_to ∷ range ∷ true ∷ small ∷ true ∷ fresh ∷ fit ∷ [] ≡ flush_tests tree counts map b
   unfolding flush_tests
   tests_are shp idx shape range small fresh fit e1 e2 e3 e4 e5 e6 e7 = rw (e3, e1, e2, e4, e5, e6, e7, eo, ee, ek)

@@ -45,7 +45,7 @@ use Rattle.allocation.specs.Fresh.{fresh_in}
 use Rattle.allocation.specs.Gains.{fits_count, gains_fit}
 use Rattle.allocation.specs.Sweep.{sweep_hold, sweep_map}
 use Rattle.allocation.proofs.Fresh.{fresh_is}
-use Rattle.allocation.proofs.Gains.{gains_fit_is}
+use Rattle.allocation.proofs.Gains.{low_slice, gains_fit_is}
 use Rattle.allocation.proofs.Going.{eight_low}
 use Rattle.allocation.proofs.Swept.{sweep_hold_eight, sweep_map_eight}
 use Rattle.pathed.specs.Pathed.{target_node, child_unit, child_node, leads_to_in, going_in, pathed_tree, pathed_counts, pathed_map}
@@ -155,6 +155,10 @@ module _ (s : Store) (r : Right s) (x : Arrays) (st : Stands s x) (b : List ℕ)
         ap (λ (l : List ℕ). fresh_in x.map (l ++ flush_units b)) fresh_are
         ∙ fresh_is s (q ++ flush_units b) x.map (low_append q (flush_units b) (used_low b by d 8) (omega (arith, by.small 17), (omega (arith, by.small 18), tt))) st.map
 
+    -- the buffers that go
+    gone : gc ≤ length n.buffers → slice 0 (gc - 0) (eight n.buffers) ≡ take gc n.buffers
+    gone few = let less : gc - 0 ≡ gc = omega arith in ap (λ (k : ℕ). take k (eight n.buffers)) less ∙ eight_take n.buffers gc fits_n.few_buffers few
+
     module _ (way : T (leads_to s p c)) where
       leads_there : T (leads s p)
       leads_there = leads_first s r.sound x.tree st.tree p c way
@@ -183,12 +187,13 @@ module _ (s : Store) (r : Right s) (x : Arrays) (st : Stands s x) (b : List ℕ)
           ∙ sym (copies_small s (sound_fits s r.sound) p q s.root f ends ∙ flush_room_lem n fits_n m fits_m c gc f g)
 
       line_fit : gc ≤ length n.buffers → fresh s (q ++ flush_units b) ≡ true
-          → gains_fit x.counts (parent_in x.tree b).buffers gc (offset_in x.tree b) (parent_in x.tree b).buffer_number ≡ fit (extended s (change s (flush_step b)))
+          → gains_fit x.counts (slice (offset_in x.tree b) ((parent_in x.tree b).buffer_number - offset_in x.tree b) (parent_in x.tree b).buffers) (slice 0 (gc - 0) (parent_in x.tree b).buffers) ≡ fit (extended s (change s (flush_step b)))
       unfolding change
       line_fit few new =
-          ap₂ (λ (y : Rattle.counting.specs.declared.Node.Node) (o : ℕ). gains_fit x.counts y.buffers gc o y.buffer_number) parent_is offset_is
-          ∙ gains_fit_is (ways s) (places s) x.counts (eight n.buffers) gc offset (length n.buffers) st.counts (eight_low n.buffers (buffers_low s r.sound t))
-          ∙ ap₂ (λ (l k : List ℕ). all (λ v. fits_count (places s v) l k v) l) come (eight_take n.buffers gc fits_n.few_buffers few)
+          ap₂ (λ (y : Rattle.counting.specs.declared.Node.Node) (o : ℕ). gains_fit x.counts (slice o (y.buffer_number - o) y.buffers) (slice 0 (gc - 0) y.buffers)) parent_is offset_is
+          ∙ gains_fit_is (ways s) (places s) x.counts (slice offset (length n.buffers - offset) (eight n.buffers)) (slice 0 (gc - 0) (eight n.buffers)) st.counts
+          (low_slice offset (length n.buffers - offset) (eight n.buffers) (eight_low n.buffers (buffers_low s r.sound t)))
+          ∙ ap₂ (λ (l k : List ℕ). all (λ v. fits_count (places s v) l k v) l) come (gone few)
           ∙ fit_moved s r (change s (flush_step b)) (path_keys s r.sound d idx fs even f ends)
           (flush_ledger s r.sound d idx fs even c gc f g way (subst (λ (z : Bool). T z) (fresh_unused s r (q ++ flush_units b)) (eq→T (fresh s (q ++ flush_units b)) new)))
           new (drop offset n.buffers) (take gc n.buffers)
@@ -278,7 +283,7 @@ module _ (s : Store) (r : Right s) (x : Arrays) (st : Stands s x) (b : List ℕ)
         (ap₂ drop_places
         (ap (λ (u : ℕ). pathed_counts x.tree x.counts (flush_path b) (flush_fresh b) (flush_units b) u) (unit_is dl way)
         ∙ ap₂ (λ (l k : List ℕ). pathed_counts x.tree x.counts l k (flush_units b) h) (path_is dl) (fresh_are dl))
-        (ap (λ (y : Rattle.counting.specs.declared.Node.Node). slice 0 (gc - 0) y.buffers) (parent_is dl way) ∙ first))
+        (ap (λ (y : Rattle.counting.specs.declared.Node.Node). slice 0 (gc - 0) y.buffers) (parent_is dl way) ∙ gone dl few))
         (ap₂ (λ (y : Rattle.counting.specs.declared.Node.Node) (o : ℕ). slice o (y.buffer_number - o) y.buffers) (parent_is dl way) (offset_is dl way) ∙ come)))
         (places_after s r (flush_step b) ev s' e (pathed_counts x.tree x.counts p q (flush_units b) h) (take gc n.buffers) (drop offset n.buffers)
         (pathed_counts_lem s r (flush_step b) ev s' e x st p q f ends h (h ∷ []) (leads_there dl way) even refl refl refl child_low (λ v o. refl) (λ v o. refl))
@@ -289,12 +294,6 @@ module _ (s : Store) (r : Right s) (x : Arrays) (st : Stands s x) (b : List ℕ)
           sums_append (in_buffers s v) (spine (children_of s) p s.root) (t ∷ h ∷ []),
           times_take v gc n.buffers,
         )))
-      where
-        less : gc - 0 ≡ gc
-        less = omega arith
-
-        first : slice 0 (gc - 0) (eight n.buffers) ≡ take gc n.buffers
-        first = ap (λ (k : ℕ). take k (eight n.buffers)) less ∙ eight_take n.buffers gc fits_n.few_buffers few
 
     -- a branch that dies lost a place among the first gc
     cover : (v : ℕ) → T (is_some (puts s.branches (change s (flush_step b)).joins v)) → T (gone_branch s r (flush_step b) ev s' e v) → T (has v n.buffers)

@@ -45,7 +45,8 @@ flush_tests tree counts map b =
     ∷ flush_room (parent_in tree b) (child_in tree b) (get_or b 15 0)
     ∷ true
     ∷ fresh_in map (flush_fresh b ++ flush_units b)
-    ∷ gains_fit counts (parent_in tree b).buffers (get_or b 16 0) (offset_in tree b) (parent_in tree b).buffer_number
+    ∷ gains_fit counts (slice (offset_in tree b) ((parent_in tree b).buffer_number - offset_in tree b) (parent_in tree b).buffers)
+    (slice 0 (get_or b 16 0 - 0) (parent_in tree b).buffers)
     ∷ []
 
 abbrev pub flush_nodes : List ℕ → List ℕ → List (ℕ × Node)

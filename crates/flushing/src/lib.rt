@@ -35,7 +35,9 @@ pub fn flush_tests(tree: &[u8; 6656], counts: &[u16; 512], map: &[u64; 4], body:
     let small = shapes::flush_room(n, ends.below, c);
     let fresh = pathed::fresh_units(map, &fs[..k], &units);
     let offset = offset_at(n, c);
-    let fit = allocation::gains_fit(counts, buffers, gc, offset, n.buffer_number);
+    let gained = counting::part(&buffers, offset, n.buffer_number);
+    let lost = counting::part(&buffers, 0, gc);
+    let fit = allocation::gains_fit(counts, gained, lost);
     [
         shape,
         true,

@@ -5,7 +5,6 @@
 ghost use Rattle.std.specs.Prelude.{◌≡◌, ◌&&◌, [], ◌∷◌, length};
 ghost use Rattle.units.specs.Bodies.{body_length};
 ghost use Rattle.held_map.specs.Map.{mark};
-ghost use Rattle.allocation.specs.Fresh.{fresh_in};
 ghost use Rattle.quiet.specs.Slots.{not_empty, is_open_slot, has_room, keeps_some};
 ghost use Rattle.quiet.specs.Slots.{take_tests, take_hold, seal_tests, seal_hold, seal_map, abandon_tests, abandon_hold, abandon_map};
 ghost use Rattle.quiet.specs.Inputs.{is_busy, is_idle, part_of};
@@ -54,18 +53,6 @@ fn keeps_some(x: Slot, n: u8) -> bool
 
 // ---- 1 take
 
-fn fresh_one(map: &[u64; 4], u: u8) -> bool
-    ensures { result ≡ fresh_in map.now (u ∷ []) }
-{
-    if u == 0 {
-        return false;
-    }
-    if held_map::has(map, u) {
-        return false;
-    }
-    true
-}
-
 pub fn take_tests(hold: &[u8; 2380], map: &[u64; 4], slot: u8, unit: u8) -> [bool; 9]
     ensures { result ≡ take_tests hold.now map.now slot unit }
 {
@@ -73,7 +60,7 @@ pub fn take_tests(hold: &[u8; 2380], map: &[u64; 4], slot: u8, unit: u8) -> [boo
     let shape = k.exists();
     let x = tables::read_slot(hold, k);
     let room = has_room(x);
-    let fresh = fresh_one(map, unit);
+    let fresh = allocation::is_fresh(map, unit);
     [shape, room, true, true, true, true, true, fresh, true]
 }
 

@@ -7,7 +7,6 @@ ghost use Rattle.rules.specs.Steps.{is_slot};
 ghost use Rattle.held_map.specs.Map.{mark};
 ghost use Rattle.counting.specs.Nodes.{put_node};
 ghost use Rattle.tables.specs.Hold.{slot_in};
-ghost use Rattle.allocation.specs.Fresh.{fresh_in};
 ghost use Rattle.rooted.specs.Memtable.{root_node_in, is_sealed_in, first_in, joined_hold};
 ghost use Rattle.rooted.specs.Memtable.{memtable_tests, memtable_tree, memtable_counts, memtable_map};
 ghost use Rattle.rooted.specs.Grow.{grow_tests, grow_tree};
@@ -17,19 +16,6 @@ use tables::Branch;
 use units::{BranchRoot, NodeUnit, UnfinishedSlot};
 
 // ---- what both kinds need
-
-// Whether a unit is not 0 and not held.
-fn is_fresh(map: &[u64; 4], u: u8) -> bool
-    ensures { result ≡ fresh_in map.now (u ∷ []) }
-{
-    if u == 0 {
-        return false;
-    }
-    if held_map::has(map, u) {
-        return false;
-    }
-    true
-}
 
 // A node comes, with one way to it, and its unit is held.
 fn add_held(
@@ -87,7 +73,7 @@ pub fn memtable_tests(
     let sealed = is_sealed(hold, slot);
     let n = root_node(tree);
     let small = shapes::room_for_buffer(n);
-    let fresh = is_fresh(map, root);
+    let fresh = allocation::is_fresh(map, root);
     [exists, sealed, true, true, true, small, true, fresh, true]
 }
 
@@ -144,7 +130,7 @@ pub fn grow_tests(tree: &[u8; 6656], map: &[u64; 4], root: u8) -> [bool; 9]
     ensures { result ≡ grow_tests tree.now map.now root }
 {
     let full = levels::way_of(tree, 8);
-    let fresh = is_fresh(map, root);
+    let fresh = allocation::is_fresh(map, root);
     [true, true, true, true, true, true, !full, fresh, true]
 }
 

@@ -28,7 +28,7 @@ module _ (tree counts map b : List ℕ) (k : ℕ) (ends : Ends) (ek : k ≡ used
       → shp ≡ path_shape (get_or b 0 0) (slice 1 indexes b) (slice 8 indexes b) → idx ≡ is_index (get_or b 15 0) → shape ≡ (shp && idx)
       → range ≡ split_share_fits ends.below (get_or b 16 0) → small ≡ room_for_child ends.node
       → fresh ≡ fresh_in map (take k (slice 8 indexes b) ++ split_units b)
-      → fit ≡ gains_fit counts ends.below.buffers 0 0 ends.below.buffer_number
+      → fit ≡ gains_fit counts (slice 0 (ends.below.buffer_number - 0) ends.below.buffers) []
       → shape ∷ true ∷ ends.leads_to ∷ range ∷ true ∷ small ∷ true ∷ fresh ∷ fit ∷ [] ≡ split_tests tree counts map b
   unfolding split_tests
   tests_are shp idx shape range small fresh fit e1 e2 e3 e4 e5 e6 e7 = rw (e3, e1, e2, e4, e5, e6, e7, ee, ek)

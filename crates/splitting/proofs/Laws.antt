@@ -38,7 +38,7 @@ use Rattle.state.proofs.Changes.{places_after, hold_after, map_after, gone_branc
 use Rattle.allocation.specs.Fresh.{fresh_in}
 use Rattle.allocation.specs.Gains.{fits_count, gains_fit}
 use Rattle.allocation.proofs.Fresh.{fresh_is}
-use Rattle.allocation.proofs.Gains.{gains_fit_is}
+use Rattle.allocation.proofs.Gains.{low_slice, gains_fit_is}
 use Rattle.allocation.proofs.Going.{and_true, eight_low}
 use Rattle.pathed.specs.Pathed.{target_node, child_unit, child_node, leads_to_in, going_in, pathed_tree, pathed_counts, pathed_map}
 use Rattle.pathed.proofs.PathEnd.{used_part_lem, used_low, even_parts, buffer_unit, buffers_low, leads_to_is, leads_first, target_node_lem, child_unit_lem, child_place, child_there, child_node_lem}
@@ -141,11 +141,12 @@ module _ (s : Store) (r : Right s) (x : Arrays) (st : Stands s x) (b : List ℕ)
           ∙ room_for_child_lem n (sound_fits s r.sound t) m (sound_fits s r.sound h) c share f (get_or b 18 0) (get_or b 19 0) place fits)
 
       line_fit : fresh s (q ++ split_units b) ≡ true
-          → gains_fit x.counts (split_child x.tree b).buffers 0 0 (split_child x.tree b).buffer_number ≡ fit (extended s (change s (split_step b)))
+          → gains_fit x.counts (slice 0 ((split_child x.tree b).buffer_number - 0) (split_child x.tree b).buffers) [] ≡ fit (extended s (change s (split_step b)))
       unfolding change
       line_fit new =
-          ap (λ (y : Rattle.counting.specs.declared.Node.Node). gains_fit x.counts y.buffers 0 0 y.buffer_number) child_is
-          ∙ gains_fit_is (ways s) (places s) x.counts (eight m.buffers) 0 0 (length m.buffers) st.counts (eight_low m.buffers (buffers_low s r.sound h))
+          ap (λ (y : Rattle.counting.specs.declared.Node.Node). gains_fit x.counts (slice 0 (y.buffer_number - 0) y.buffers) []) child_is
+          ∙ gains_fit_is (ways s) (places s) x.counts (slice 0 (length m.buffers - 0) (eight m.buffers)) [] st.counts
+          (low_slice 0 (length m.buffers - 0) (eight m.buffers) (eight_low m.buffers (buffers_low s r.sound h)))
           ∙ ap (λ (l : List ℕ). all (λ v. fits_count (places s v) l [] v) l) (eight_whole m.buffers (sound_fits s r.sound h).few_buffers)
           ∙ fit_moved s r (change s (split_step b)) (path_keys s r.sound d idx fs even f ends)
           (split_ledger s r.sound d idx fs even c share f (get_or b 18 0) (get_or b 19 0) way (subst (λ (z : Bool). T z) (fresh_unused s r (q ++ split_units b)) (eq→T (fresh s (q ++ split_units b)) new)))

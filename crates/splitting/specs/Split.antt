@@ -42,7 +42,7 @@ split_tests tree counts map b =
     ∷ room_for_child (split_target tree b)
     ∷ true
     ∷ fresh_in map (split_fresh b ++ split_units b)
-    ∷ gains_fit counts (split_child tree b).buffers 0 0 (split_child tree b).buffer_number
+    ∷ gains_fit counts (slice 0 ((split_child tree b).buffer_number - 0) (split_child tree b).buffers) []
     ∷ []
 
 abbrev pub split_nodes : List ℕ → List ℕ → List (ℕ × Node)

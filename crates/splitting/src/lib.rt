@@ -26,7 +26,8 @@ pub fn split_tests(tree: &[u8; 6656], counts: &[u16; 512], map: &[u64; 4], body:
     let range = shapes::split_share_fits(m, body[16]);
     let small = shapes::room_for_child(n);
     let fresh = pathed::fresh_units(map, &fs[..k], &units);
-    let fit = allocation::gains_fit(counts, buffers, 0, 0, m.buffer_number);
+    let gained = counting::part(&buffers, 0, m.buffer_number);
+    let fit = allocation::gains_fit(counts, gained, &[]);
     [
         shape,
         true,

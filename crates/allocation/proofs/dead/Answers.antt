@@ -1,15 +1,11 @@
-use Rattle.std.proofs.Common.{eq-eqb, ne_eqb}
+use Rattle.std.proofs.Common.{eq-eqb, ne_eqb, refl}
 use Rattle.allocation.specs.Sweep.{dead_in}
 use Rattle.allocation.proofs.dead.Goals as goal
 
-pub returns-then-places_of-ne0 : goal.returns-then-places_of-ne0
+pub returns-then-places_of-eq0 : goal.returns-then-places_of-eq0
 unfolding dead_in
-returns-then-places_of-ne0 c = rw (← c.places_of.ensures, ne_eqb _ _ c.if-places_of-ne0.true)
+returns-then-places_of-eq0 c = rw (← c.places_of.ensures, eq-eqb _ _ c.if-places_of-eq0.true, ← c.in_use.ensures) refl
 
-pub returns-then-in_use : goal.returns-then-in_use
+pub returns-else-places_of-eq0 : goal.returns-else-places_of-eq0
 unfolding dead_in
-returns-then-in_use c = rw (← c.places_of.ensures, eq-eqb _ _ c.if-places_of-ne0.false, ← c.in_use.ensures, c.if-in_use.true)
-
-pub returns : goal.returns
-unfolding dead_in
-returns c = rw (← c.places_of.ensures, eq-eqb _ _ c.if-places_of-ne0.false, ← c.in_use.ensures, c.if-in_use.false)
+returns-else-places_of-eq0 c = rw (← c.places_of.ensures, ne_eqb _ _ c.if-places_of-eq0.false) refl

@@ -1,17 +1,11 @@
-use Rattle.std.proofs.Common.{arith, rules}
-use Rattle.rules.specs.Tables.{times}
-use Rattle.allocation.proofs.Loops.{run_from, times_turn}
+use Rattle.std.proofs.Common.{rules, ◌≡◌, ◌∙◌}
+use Rattle.std.specs.Prelude.{◌==◌}
+use Rattle.std.specs.List.{count_by}
+use Rattle.std.proofs.lemmas.List.Sums.{count_by-le-length}
+use Rattle.allocation.proofs.Loops.{times_counted}
 use Rattle.allocation.proofs.occurrences.Goals as goal
 
-pub loop-i-init : goal.loop-i-init
-loop-i-init c =
-    let a = c.args in
-    record {
-      eight = search rules;
-      short = search rules;
-      few = search rules;
-      left = omega (arith, run_from (times a.b) a.bs a.from a.to c.up_to-end.result (search rules) c.up_to-end.ensures.1);
-    }
-
-pub loop-i-preserved : goal.loop-i-preserved
-loop-i-preserved c = times_turn c.loop-i.invariant c.loop-i-test.true c.plus_if_same-n.ensures
+pub returns : goal.returns
+returns c =
+    let n : c.count.result ≡ count_by (λ x. x == c.args.b) c.args.bs.now = search rules in
+    (n ∙ times_counted c.args.b c.args.bs.now, rw n (count_by-le-length (λ x. x == c.args.b) c.args.bs.now))
