@@ -78,7 +78,7 @@ pub fn fresh_run(seen: &mut [u64; 4], us: &[u8]) -> bool
 // ---- counts after a step
 
 // How often b stands in the list.
-fn occurrences(bs: &[u8], b: u8) -> usize
+pub fn occurrences(bs: &[u8], b: u8) -> usize
     ensures { (result ≡ times b bs.now) × (result ≤ length bs.now) }
 {
     bs.iter().filter(|x| **x == b).count()
