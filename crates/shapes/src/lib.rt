@@ -57,7 +57,8 @@ fn replace_children(n: Node, at: u8, gone: u8, come: [u8; 8], with: [u8; 8], num
     }
 }
 
-fn offset_of(n: Node, c: u8) -> u8
+// The offset of the child c; 0 where there is none.
+pub fn offset_of(n: Node, c: u8) -> u8
     ensures { result ≡ get_or n.offsets c 0 }
 {
     eights::place(n.offsets, c as usize)
