@@ -19,7 +19,7 @@ const PLACES: usize = 256;
 
 // ---- nodes
 
-#[derive(Clone, Copy)]
+#[derive(Clone, Copy, Debug, Default, PartialEq, Eq)]
 pub struct Node {
     pub buffer_number: u8,
     pub buffers: [u8; 8],

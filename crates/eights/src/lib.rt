@@ -11,15 +11,6 @@ ghost use Rattle.eights.specs.Eights.{replaced, number_after};
 
 // ---- numbers
 
-pub fn less(x: u8, by: u8) -> u8
-    ensures { result ≡ x - by }
-{
-    if by < x {
-        return x - by;
-    }
-    0
-}
-
 // "Offsets up to start stay, those between become start, those from end fall by end - start - 1"
 fn moved_offset(o: u8, start: u8, end: u8) -> u8
     ensures { result ≡ moved start end o }
@@ -30,36 +21,17 @@ fn moved_offset(o: u8, start: u8, end: u8) -> u8
     if o < end {
         return start;
     }
-    less(o, less(less(end, start), 1))
-}
-
-// A record has eight places.
-fn room_for(number: usize) -> u8
-    ensures { (result ≤ 8) × (result ≡ up_to number) }
-{
-    if number < 8 {
-        return number as u8;
-    }
-    8
-}
-
-fn left_from(number: u8, from: usize) -> usize
-    ensures { result ≡ number - from }
-{
-    let all = number as usize;
-    if from < all {
-        return all - from;
-    }
-    0
+    o.saturating_sub(end.saturating_sub(start).saturating_sub(1))
 }
 
 // How many there are of `number` when from `at` on `gone` go and `come` come; at most eight.
+#[tactic(auto, unfolding(counting::specs::Places::up_to))]
 pub fn number_after(number: u8, at: u8, gone: u8, come: u8) -> u8
     ensures { result ≡ number_after number at gone come }
 {
     let start = at as usize;
-    let left = left_from(number, start + gone as usize);
-    room_for(start + come as usize + left)
+    let left = (number as usize).saturating_sub(start + gone as usize);
+    (start + come as usize + left).min(8) as u8
 }
 
 // ---- places
@@ -67,10 +39,7 @@ pub fn number_after(number: u8, at: u8, gone: u8, come: u8) -> u8
 pub fn place(xs: [u8; 8], at: usize) -> u8
     ensures { result ≡ get_or xs at 0 }
 {
-    if at < 8 {
-        return xs[at];
-    }
-    0
+    xs.get(at).copied().unwrap_or(0)
 }
 
 pub fn none() -> [u8; 8]
@@ -92,67 +61,38 @@ pub fn two(v: u8, w: u8) -> [u8; 8]
 }
 
 // The place j of eight in which `gone` go from `at` on and the first `number` of `come` come.
-fn replace_place(xs: [u8; 8], at: u8, gone: u8, come: [u8; 8], number: u8, j: u8) -> u8
+fn replace_place(xs: [u8; 8], at: u8, gone: u8, come: [u8; 8], number: u8, j: usize) -> u8
     requires { j < 8 }
     ensures { result ≡ get_or (replaced xs at gone (take number come)) j 0 }
 {
     let start = at as usize;
-    let end = start + number as usize;
-    let here = j as usize;
-    if here < start {
-        return place(xs, here);
+    if j < start {
+        return place(xs, j);
     }
-    if here < end {
-        return place(come, here - start);
+    if j < start + number as usize {
+        return place(come, j - start);
     }
-    place(xs, here - end + start + gone as usize)
+    place(xs, j - number as usize + gone as usize)
 }
 
 pub fn replace(xs: [u8; 8], at: u8, gone: u8, come: [u8; 8], number: u8) -> [u8; 8]
     ensures { result ≡ eight (replaced xs at gone (take number come)) }
 {
-    [
-        replace_place(xs, at, gone, come, number, 0),
-        replace_place(xs, at, gone, come, number, 1),
-        replace_place(xs, at, gone, come, number, 2),
-        replace_place(xs, at, gone, come, number, 3),
-        replace_place(xs, at, gone, come, number, 4),
-        replace_place(xs, at, gone, come, number, 5),
-        replace_place(xs, at, gone, come, number, 6),
-        replace_place(xs, at, gone, come, number, 7),
-    ]
+    std::array::from_fn(|j| replace_place(xs, at, gone, come, number, j))
 }
 
 // A place that is not used stays 0, as it is not above `by`.
 pub fn lower(xs: [u8; 8], by: u8) -> [u8; 8]
     ensures { result ≡ eight (map (λ o. o - by) xs) }
 {
-    [
-        less(xs[0], by),
-        less(xs[1], by),
-        less(xs[2], by),
-        less(xs[3], by),
-        less(xs[4], by),
-        less(xs[5], by),
-        less(xs[6], by),
-        less(xs[7], by),
-    ]
+    xs.map(|o| o.saturating_sub(by))
 }
 
 // A place that is not used stays 0, as it is not above `start`.
 pub fn move_offsets(xs: [u8; 8], start: u8, end: u8) -> [u8; 8]
     ensures { result ≡ eight (map (moved start end) xs) }
 {
-    [
-        moved_offset(xs[0], start, end),
-        moved_offset(xs[1], start, end),
-        moved_offset(xs[2], start, end),
-        moved_offset(xs[3], start, end),
-        moved_offset(xs[4], start, end),
-        moved_offset(xs[5], start, end),
-        moved_offset(xs[6], start, end),
-        moved_offset(xs[7], start, end),
-    ]
+    xs.map(|o| moved_offset(o, start, end))
 }
 
 // ---- tests
@@ -161,28 +101,13 @@ pub fn move_offsets(xs: [u8; 8], start: u8, end: u8) -> [u8; 8]
 pub fn at_least(xs: [u8; 8], number: u8, low: u8) -> bool
     ensures { result ≡ all (λ o. leb low o) (take number xs) }
 {
-    let end = room_for(number as usize) as usize;
-    let mut i = 0;
-    while i < end {
-        if xs[i] < low {
-            return false;
-        }
-        i += 1;
-    }
-    true
+    xs.iter().take(number as usize).all(|&o| low <= o)
 }
 
 // Whether the first `number` of both are the same.
 pub fn same(xs: [u8; 8], ys: [u8; 8], number: u8) -> bool
     ensures { result ≡ eqs (take number xs) (take number ys) }
 {
-    let end = room_for(number as usize) as usize;
-    let mut i = 0;
-    while i < end {
-        if xs[i] != ys[i] {
-            return false;
-        }
-        i += 1;
-    }
-    true
+    let end = (number as usize).min(8);
+    xs[..end] == ys[..end]
 }

@@ -2,18 +2,10 @@
 // go. The body has 19 bytes: depth, seven indexes, seven fresh units, child, number of buffers that go, units of parent and new child.
 #![tactic(auto)]
 
-ghost use Rattle.std.specs.Prelude.{◌≡◌, length, get_or};
+ghost use Rattle.std.specs.Prelude.{◌≡◌, length};
 ghost use Rattle.flushing.specs.Flush.{flush_tests, flush_tree, flush_counts, flush_hold, flush_map};
 
-use counting::Node;
 use units::NodeUnit;
-
-fn offset_at(n: Node, c: u8) -> u8
-    ensures { result ≡ get_or n.offsets c 0 }
-{
-    let offsets = n.offsets;
-    eights::place(offsets, c as usize)
-}
 
 // The tests of the lines 4 to 12; a node that is not there is read at unit 0, where an earlier line has failed.
 pub fn flush_tests(tree: &[u8; 6656], counts: &[u16; 512], map: &[u64; 4], body: &[u8]) -> [bool; 9]
@@ -34,7 +26,7 @@ pub fn flush_tests(tree: &[u8; 6656], counts: &[u16; 512], map: &[u64; 4], body:
     let range = shapes::gc_fits(n, c, gc);
     let small = shapes::flush_room(n, ends.below, c);
     let fresh = pathed::fresh_units(map, &fs[..k], &units);
-    let offset = offset_at(n, c);
+    let offset = shapes::offset_of(n, c);
     let gained = counting::part(&buffers, offset, n.buffer_number);
     let lost = counting::part(&buffers, 0, gc);
     let fit = allocation::gains_fit(counts, gained, lost);
@@ -76,7 +68,7 @@ pub fn flush(
     let ends = pathed::ends_of(tree, &is[..k], c);
     let n = ends.node;
     let buffers = n.buffers;
-    let offset = offset_at(n, c);
+    let offset = shapes::offset_of(n, c);
     let copied = pathed::copy(tree, counts, map, &is[..k], &fs[..k], &units, f);
     counting::add_node(tree, counts, f, shapes::flush_parent(n, c, gc, g));
     counting::add_node(tree, counts, g, shapes::flush_child(n, ends.below, c));

@@ -147,7 +147,7 @@ fn part_of(n: Node, start: u8, end: u8) -> Input
     let buffers = n.buffers;
     let none = eights::none();
     let later = eights::replace(buffers, 0, start, none, 0);
-    let number = eights::less(end, start);
+    let number = end.saturating_sub(start);
     let roots = eights::replace(later, number, 8, none, 0);
     Input { number, roots }
 }

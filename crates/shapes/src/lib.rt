@@ -33,39 +33,35 @@ use units::{BranchRoot, NodeUnit};
 // ---- lists of a node
 
 // From `at` on, `gone` buffers go and the first `number` of `come` come.
+#[tactic(auto, unfolding(crate::specs::Shapes::replace_buffers))]
 fn replace_buffers(n: Node, at: u8, gone: u8, come: [u8; 8], number: u8) -> Node
     ensures { result ≡ replace_buffers n at gone come number }
 {
-    let old = n.buffer_number;
-    let held = n.buffers;
-    let buffers = eights::replace(held, at, gone, come, number);
-    let mut r = n;
-    r.buffer_number = eights::number_after(old, at, gone, number);
-    r.buffers = buffers;
-    r
+    Node {
+        buffer_number: eights::number_after(n.buffer_number, at, gone, number),
+        buffers: eights::replace(n.buffers, at, gone, come, number),
+        ..n
+    }
 }
 
 // The same of the children with their offsets.
+#[tactic(auto, unfolding(crate::specs::Shapes::replace_children))]
 fn replace_children(n: Node, at: u8, gone: u8, come: [u8; 8], with: [u8; 8], number: u8) -> Node
     ensures { result ≡ replace_children n at gone come with number }
 {
-    let old = n.child_number;
-    let under = n.children;
-    let had = n.offsets;
-    let children = eights::replace(under, at, gone, come, number);
-    let offsets = eights::replace(had, at, gone, with, number);
-    let mut r = n;
-    r.child_number = eights::number_after(old, at, gone, number);
-    r.children = children;
-    r.offsets = offsets;
-    r
+    Node {
+        child_number: eights::number_after(n.child_number, at, gone, number),
+        children: eights::replace(n.children, at, gone, come, number),
+        offsets: eights::replace(n.offsets, at, gone, with, number),
+        ..n
+    }
 }
 
-fn offset_of(n: Node, c: u8) -> u8
+// The offset of the child c; 0 where there is none.
+pub fn offset_of(n: Node, c: u8) -> u8
     ensures { result ≡ get_or n.offsets c 0 }
 {
-    let offsets = n.offsets;
-    eights::place(offsets, c as usize)
+    eights::place(n.offsets, c as usize)
 }
 
 // ---- nodes that come
@@ -74,31 +70,20 @@ fn offset_of(n: Node, c: u8) -> u8
 pub fn with_buffer(n: Node, b: BranchRoot) -> Node
     ensures { result ≡ with_buffer n b.0 }
 {
-    let number = n.buffer_number;
-    replace_buffers(n, number, 0, eights::one(b.0), 1)
+    replace_buffers(n, n.buffer_number, 0, eights::one(b.0), 1)
 }
 
 // A grow's root: over the old root, or a bare leaf where there is none.
 pub fn over(r: NodeUnit) -> Node
     ensures { result ≡ coded (over_root r.0) }
 {
-    let unit = r.0;
-    let none = eights::none();
-    if unit == 0 {
-        return Node {
-            buffer_number: 0,
-            buffers: none,
-            child_number: 0,
-            children: none,
-            offsets: none,
-        };
+    if r.0 == 0 {
+        return Node::default();
     }
     Node {
-        buffer_number: 0,
-        buffers: none,
         child_number: 1,
-        children: eights::one(unit),
-        offsets: none,
+        children: eights::one(r.0),
+        ..Node::default()
     }
 }
 
@@ -129,8 +114,7 @@ pub fn split_parent(n: Node, c: u8, l: NodeUnit, r: NodeUnit) -> Node
 pub fn left_of(m: Node, a: u8) -> Node
     ensures { result ≡ left_of m a }
 {
-    let number = m.child_number;
-    replace_children(m, a, number, eights::none(), eights::none(), 0)
+    replace_children(m, a, m.child_number, eights::none(), eights::none(), 0)
 }
 
 // The others.
@@ -141,16 +125,15 @@ pub fn right_of(m: Node, a: u8) -> Node
 }
 
 // A flush's target: the child c is g and has all buffers; then the first gc buffers go.
+#[tactic(auto, unfolding(crate::specs::Shapes::flush_parent))]
 pub fn flush_parent(n: Node, c: u8, gc: u8, g: NodeUnit) -> Node
     ensures { result ≡ flush_parent n c gc g.0 }
 {
-    let number = n.buffer_number;
-    let flushed = replace_children(n, c, 1, eights::one(g.0), eights::one(number), 1);
-    let had = flushed.offsets;
-    let offsets = eights::lower(had, gc);
-    let mut r = replace_buffers(flushed, 0, gc, eights::none(), 0);
-    r.offsets = offsets;
-    r
+    let flushed = replace_children(n, c, 1, eights::one(g.0), eights::one(n.buffer_number), 1);
+    Node {
+        offsets: eights::lower(flushed.offsets, gc),
+        ..replace_buffers(flushed, 0, gc, eights::none(), 0)
+    }
 }
 
 // A flush's child: it gains the parent's buffers from its offset on.
@@ -158,74 +141,62 @@ pub fn flush_child(n: Node, m: Node, c: u8) -> Node
     ensures { result ≡ flush_child n m c }
 {
     let offset = offset_of(n, c);
-    let buffers = n.buffers;
-    let gained = eights::replace(buffers, 0, offset, eights::none(), 0);
-    let number = eights::less(n.buffer_number, offset);
-    let at = m.buffer_number;
-    replace_buffers(m, at, 0, gained, number)
+    let gained = eights::replace(n.buffers, 0, offset, eights::none(), 0);
+    let number = n.buffer_number.saturating_sub(offset);
+    replace_buffers(m, m.buffer_number, 0, gained, number)
 }
 
 // A commit's target: b in the place of the buffers from `start` up to `end`.
+#[tactic(auto, unfolding(crate::specs::Shapes::commit_node))]
 pub fn commit_node(n: Node, start: u8, end: u8, b: BranchRoot) -> Node
     ensures { result ≡ commit_node n start end b.0 }
 {
-    let gone = eights::less(end, start);
-    let had = n.offsets;
-    let offsets = eights::move_offsets(had, start, end);
-    let mut r = replace_buffers(n, start, gone, eights::one(b.0), 1);
-    r.offsets = offsets;
-    r
+    let gone = end.saturating_sub(start);
+    Node {
+        offsets: eights::move_offsets(n.offsets, start, end),
+        ..replace_buffers(n, start, gone, eights::one(b.0), 1)
+    }
 }
 
 // ---- questions: 7, the numbers of a step
 
 // A leaf splits at 0, another node within its children.
+#[tactic(auto, unfolding(crate::specs::Questions::split_share_fits))]
 pub fn split_share_fits(m: Node, a: u8) -> bool
     ensures { result ≡ split_share_fits m a }
 {
     if m.child_number == 0 {
-        return a == 0;
+        a == 0
+    } else {
+        1 <= a && a < m.child_number
     }
-    if 1 <= a {
-        return a < m.child_number;
-    }
-    false
 }
 
 // No child lacks one of the first gc buffers once c has them all.
+#[tactic(auto, unfolding(crate::specs::Questions::gc_fits))]
 pub fn gc_fits(n: Node, c: u8, gc: u8) -> bool
     ensures { result ≡ gc_fits n c gc }
 {
-    let number = n.buffer_number;
-    let had = n.offsets;
-    let offsets = eights::replace(had, c, 1, eights::one(number), 1);
-    if eights::at_least(offsets, n.child_number, gc) {
-        return gc <= number;
-    }
-    false
+    let offsets = eights::replace(n.offsets, c, 1, eights::one(n.buffer_number), 1);
+    eights::at_least(offsets, n.child_number, gc) && gc <= n.buffer_number
 }
 
+#[tactic(auto, unfolding(crate::specs::Questions::part_fits))]
 pub fn part_fits(n: Node, start: u8, end: u8) -> bool
     ensures { result ≡ part_fits n start end }
 {
-    if start < end {
-        return end <= n.buffer_number;
-    }
-    false
+    start < end && end <= n.buffer_number
 }
 
 // ---- 8, the input of a commit
 
 // The buffers from `start` up to `end` are exactly the `number` roots of the input.
+#[tactic(auto, unfolding(crate::specs::Questions::part_is))]
 pub fn part_is(n: Node, start: u8, end: u8, number: u8, input: [u8; 8]) -> bool
     ensures { result ≡ part_is n start end number input }
 {
-    let buffers = n.buffers;
-    let part = eights::replace(buffers, 0, start, eights::none(), 0);
-    if eights::less(end, start) == number {
-        return eights::same(part, input, number);
-    }
-    false
+    let part = eights::replace(n.buffers, 0, start, eights::none(), 0);
+    end.saturating_sub(start) == number && eights::same(part, input, number)
 }
 
 // ---- 9, the sizes
@@ -246,8 +217,6 @@ pub fn room_for_child(n: Node) -> bool
 pub fn flush_room(n: Node, m: Node, c: u8) -> bool
     ensures { result ≡ flush_room n m c }
 {
-    let offset = offset_of(n, c);
-    let gained = eights::less(n.buffer_number, offset);
-    let number = m.buffer_number;
-    number as usize + gained as usize <= 8
+    let gained = n.buffer_number.saturating_sub(offset_of(n, c));
+    m.buffer_number as usize + gained as usize <= 8
 }

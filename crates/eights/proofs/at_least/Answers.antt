@@ -1,19 +1,13 @@
-use Rattle.std.proofs.Common.{arith, rules}
-use Rattle.eights.proofs.Runs.{least_start, least_out, least_turn}
+-- What the chain answers is the library's word for it, which has the clauses of ours.
+use Rattle.std.proofs.Common.{◌&&◌, leb, take, refl, ◌∙◌, rules, tests}
+use Rattle.std.specs.List.{list_all}
+use Rattle.std.proofs.lemmas.Iterator.{YieldsList-from_slice, YieldsList-from_take}
+use Rattle.std.proofs.lemmas.Iterator.Search.{all_from_yields_List}
+use Rattle.std.proofs.lemmas.List.Recursion.{same_from_clauses}
+use Rattle.rules.specs.Tables.{all}
 use Rattle.eights.proofs.at_least.Goals as goal
 
-pub loop-i-init : goal.loop-i-init
-loop-i-init c = record {
-  within = omega arith;
-  left = least_start _ c.args.xs c.args.number c.room_for-end.result (search rules) c.room_for-end.ensures.1;
-}
-
-pub returns-then-xs-i : goal.returns-then-xs-i
-returns-then-xs-i c =
-    least_out c.args.low c.args.xs c.loop-i.i c.room_for-end.result _ (omega arith) (omega arith) c.if-xs-i.true c.loop-i.invariant.left
-
-pub loop-i-preserved : goal.loop-i-preserved
-loop-i-preserved c = record {
-  within = omega arith;
-  left = least_turn _ c.args.xs c.loop-i.i c.room_for-end.result _ (omega arith) (omega arith) c.if-xs-i.false c.loop-i.invariant.left;
-}
+pub returns : goal.returns
+returns c =
+    all_from_yields_List (λ o. leb c.args.low o) _ _ _ c.all.ensures.ran (YieldsList-from_take c.args.number (YieldsList-from_slice c.args.xs cc) cc) (λ x b q k. search (rules, tests))
+    ∙ same_from_clauses (list_all (λ o. leb c.args.low o)) (all (λ o. leb c.args.low o)) (λ o b. leb c.args.low o && b) refl (λ _ _. refl) (λ _ _. refl) (take c.args.number c.args.xs)
