@@ -1,7 +1,7 @@
 -- A row is a run of bytes that stands at a place of a list. Pouring stores a row: it then stands there, and a row apart from it stands
 -- as before. Every record of the lent arrays is read and stored through these. Assumes nothing.
 use Rattle.std.specs.Prelude.{◌⊎◌, Bool, true, false, ◌≡◌, refl, List, [], ◌∷◌, ◌++◌, ℕ, zero, suc, ◌+◌, ◌-◌, ◌*◌, ◌≤◌, ◌<◌, ltb, length, get_or, set, take, drop, replicate}
-use Rattle.std.proofs.Common.{inl, inr, ⊎_elim, ap, sym, ◌∙◌, eq-or-lt_of_le, mul-le-mul_right, suc-mul, add-one, arith, length-set, length-drop, get_or-set_same, get_or-set_other, take_all, ltb-true, ltb-false}
+use Rattle.std.proofs.Common.{inl, inr, ⊎_elim, ap, sym, ◌∙◌, eq-or-lt_of_le, mul-le-mul_right, suc-mul, add-one, arith, length-set, length-drop, get_or-set_same, get_or-set_other, take_all, append-nil, ltb-true, ltb-false}
 use Rattle.std.proofs.Math.Seq.{paste}
 use Rattle.std.proofs.lemmas.List.{take-append-le, drop-append-le}
 use Rattle.std.proofs.lemmas.List.Edits.{paste_none, paste_more}
@@ -165,6 +165,11 @@ eight_pad (a ∷ b ∷ c ∷ d ∷ e ∷ f ∷ []) h = refl
 eight_pad (a ∷ b ∷ c ∷ d ∷ e ∷ f ∷ g ∷ []) h = refl
 eight_pad (a ∷ b ∷ c ∷ d ∷ e ∷ f ∷ g ∷ x ∷ []) h = refl
 eight_pad (a ∷ b ∷ c ∷ d ∷ e ∷ f ∷ g ∷ x ∷ y ∷ r) h = absurd (omega arith)
+
+pub eight_all : (l : List ℕ) → length l ≡ room → l ≡ eight l
+eight_all l e =
+    let none : room - length l ≡ 0 = omega arith in
+    sym (eight_pad l (omega arith) ∙ ap (λ (k : ℕ). l ++ replicate k 0) none ∙ append-nil l)
 
 -- a run of the used places is a run of the list
 pub eight_slice : (l : List ℕ) (from to : ℕ) → length l ≤ room → from ≤ to → to ≤ length l → slice from (to - from) (eight l) ≡ slice from (to - from) l

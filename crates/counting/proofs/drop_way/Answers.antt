@@ -3,4 +3,4 @@ use Rattle.counting.proofs.drop_way.Goals as goal
 
 pub returns-clause-counts : goal.returns-clause-counts
 unfolding drop_count
-returns-clause-counts c = rw c.less-ways.ensures
+returns-clause-counts c = rw (c.saturating_sub.ensures, c.from-at.ensures)
