@@ -75,14 +75,6 @@ pub fn write_node(tree: &mut [u8; 6656], u: NodeUnit, n: Node)
     records::pour(tree, usize::from(u.0) * STRIDE, &bytes_of(n));
 }
 
-fn blank_if(tree: &mut [u8; 6656], u: NodeUnit, last: bool)
-    ensures { tree.new ≡ blanked_if last tree.old u.0 }
-{
-    if last {
-        write_node(tree, u, Node::default());
-    }
-}
-
 // ---- ways
 
 pub fn ways_of(counts: &[u16; 512], u: NodeUnit) -> u16
@@ -104,7 +96,9 @@ pub fn drop_way(tree: &mut [u8; 6656], counts: &mut [u16; 512], u: NodeUnit) -> 
     ensures died { result ≡ last_way counts.old u.0 }
 {
     let last = last_way(counts, u);
-    blank_if(tree, u, last);
+    if last {
+        write_node(tree, u, Node::default());
+    }
     let at = usize::from(u.0);
     counts[at] = counts[at].saturating_sub(1);
     last
