@@ -47,9 +47,6 @@ module _ (f : List ℕ → ℕ → List ℕ) where
   each_append [] b l = refl
   each_append (x ∷ a) b l = each_append a b (f l x)
 
-  pub each_start : (l bs : List ℕ) (from to end : ℕ) → length bs ≡ room → end ≡ up_to to → each f l (slice from (end - from) bs) ≡ each f l (slice from (to - from) bs)
-  each_start l bs from to end h e = rw (e, run_start bs from to h) refl
-
   pub each_turn : (l l' bs : List ℕ) (i end : ℕ) (r : List ℕ) → i < end → end ≤ length bs → l' ≡ f l (get_or bs i 0) → each f l (slice i (end - i) bs) ≡ r → each f l' (slice (i + 1) (end - (i + 1)) bs) ≡ r
   each_turn l l' bs i end r p q e h = rw e (ap (each f l) (sym (run_turn bs i end p q)) ∙ h)
 

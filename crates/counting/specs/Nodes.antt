@@ -3,6 +3,9 @@
 use Rattle.std.specs.Prelude.{Bool, true, false, cond, ◌≡◌, refl, List, ◌∷◌, ◌++◌, ℕ, ◌+◌, ◌*◌, ◌<◌, ◌≤◌, eqb, length, get_or, set, replicate}
 use Rattle.std.proofs.Common.{ap, sym, ◌∙◌, arith, add-zero, ne_eqb}
 use Rattle.std.proofs.lemmas.Bool.{eqb-false}
+use Rattle.std.proofs.lemmas.List.{ext_get_or, length-replicate, get_or-replicate}
+use Rattle.std.specs.Array.{AllOfLen}
+use Rattle.units.specs.Limits.{room}
 use Rattle.rules.specs.Store.{blank}
 use Rattle.records.specs.Rows.{Row, row_set, row_beside, eight, eight_at, poured, poured_length, poured_row, poured_beside, rows_apart, eight_read}
 use Rattle.counting.specs.declared.Node.{Node}
@@ -91,6 +94,17 @@ put_node_root l u n ws e r = go (eqb u 0) refl
     go : (z : Bool) → eqb u 0 ≡ z → Row (cond z l (poured l (u * stride) (bytes_of n))) 0 ws
     go true q = r
     go false q = poured_beside l (u * stride) (bytes_of n) 0 ws (rw e (rows_apart stride 0 u (λ w. eqb-false u 0 q (sym w)))) r
+
+-- the node whose numbers are all 0 is the blank one
+zeros : (l : List ℕ) → AllOfLen (λ (x : ℕ). x ≡ 0) l room → l ≡ replicate room 0
+zeros l a =
+    ext_get_or 0 l (replicate room 0) (a.long ∙ sym (length-replicate {A = ℕ} room 0))
+    (λ i p. let q : i < room = omega (arith, a.long) in a.at i 0 q ∙ sym (get_or-replicate {A = ℕ} room i 0 0 q))
+
+pub all_zero : (n : Node) → n.buffer_number ≡ 0 → AllOfLen (λ (x : ℕ). x ≡ 0) n.buffers room → n.child_number ≡ 0 → AllOfLen (λ (x : ℕ). x ≡ 0) n.children room
+    → AllOfLen (λ (x : ℕ). x ≡ 0) n.offsets room → n ≡ blank_node
+all_zero n a b c d e =
+    λ i. record { buffer_number = a i; buffers = zeros n.buffers b i; child_number = c i; children = zeros n.children d i; offsets = zeros n.offsets e i }
 
 pub blank_bytes : bytes_of blank_node ≡ node_bytes blank
 blank_bytes = refl

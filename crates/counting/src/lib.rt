@@ -2,14 +2,14 @@
 // and the places of branch b in the buffers at 256 + b. On arrays that are not right every function still ends within bounds.
 #![tactic(auto)]
 
-ghost use Rattle.std.specs.Prelude.{◌≤◌, ◌+◌, ◌-◌, ◌≡◌, get_or, set};
+ghost use Rattle.std.specs.Prelude.{◌≤◌, ◌+◌, ◌-◌, ◌≡◌, ℕ, get_or, set};
 ghost use Rattle.units.specs.Limits.{room};
 ghost use Rattle.rules.specs.Tables.{slice};
-ghost use Rattle.counting.specs.Nodes.{node_in, put_node, bytes_of, blank_node};
+ghost use Rattle.counting.specs.Nodes.{node_in, put_node, bytes_of};
 ghost use Rattle.counting.specs.Change.{last_way, blanked_if, drop_tree, drop_count};
-ghost use Rattle.counting.specs.Places.{place_of, one_more, add_place, drop_place, add_places, drop_places, up_to};
+ghost use Rattle.counting.specs.Places.{place_of, Computes, change_places, add_place, add_places, drop_places, up_to};
 
-use units::{BranchRoot, Count, NodeUnit};
+use units::{BranchRoot, NodeUnit};
 
 // The bytes of a node's row.
 const STRIDE: usize = 26;
@@ -43,87 +43,36 @@ pub fn set_root(tree: &mut [u8; 6656], r: NodeUnit)
 pub fn read_node(tree: &[u8; 6656], u: NodeUnit) -> Node
     ensures { result ≡ node_in tree.now u.0 }
 {
-    let unit = u.0;
-    let at = unit as usize * STRIDE;
-    let buffers = records::eight(tree, at + 1);
-    let children = records::eight(tree, at + 10);
-    let offsets = records::eight(tree, at + 18);
+    let at = usize::from(u.0) * STRIDE;
     Node {
         buffer_number: tree[at],
-        buffers,
+        buffers: records::eight(tree, at + 1),
         child_number: tree[at + 9],
-        children,
-        offsets,
+        children: records::eight(tree, at + 10),
+        offsets: records::eight(tree, at + 18),
     }
 }
 
-fn bytes_of(n: Node) -> [u8; 26]
+fn bytes_of(n: Node) -> [u8; STRIDE]
     ensures { result ≡ bytes_of n }
 {
-    let b = n.buffers;
-    let c = n.children;
-    let o = n.offsets;
-    [
-        n.buffer_number,
-        b[0],
-        b[1],
-        b[2],
-        b[3],
-        b[4],
-        b[5],
-        b[6],
-        b[7],
-        n.child_number,
-        c[0],
-        c[1],
-        c[2],
-        c[3],
-        c[4],
-        c[5],
-        c[6],
-        c[7],
-        o[0],
-        o[1],
-        o[2],
-        o[3],
-        o[4],
-        o[5],
-        o[6],
-        o[7],
-    ]
+    let mut row = [0; STRIDE];
+    row[0] = n.buffer_number;
+    row[1..9].copy_from_slice(&n.buffers);
+    row[9] = n.child_number;
+    row[10..18].copy_from_slice(&n.children);
+    row[18..].copy_from_slice(&n.offsets);
+    row
 }
 
 // Unit 0 has no node: its row holds the root, which stays.
 pub fn write_node(tree: &mut [u8; 6656], u: NodeUnit, n: Node)
     ensures { tree.new ≡ put_node tree.old u.0 n }
 {
-    let unit = u.0;
-    if unit == 0 {
+    if u.0 == 0 {
         return;
     }
-    let bytes = bytes_of(n);
-    records::pour(tree, unit as usize * STRIDE, &bytes);
-}
-
-fn blank_node() -> Node
-    ensures { result ≡ blank_node }
-{
-    let none = [0u8; 8];
-    Node {
-        buffer_number: 0,
-        buffers: none,
-        child_number: 0,
-        children: none,
-        offsets: none,
-    }
-}
-
-fn blank_if(tree: &mut [u8; 6656], u: NodeUnit, last: bool)
-    ensures { tree.new ≡ blanked_if last tree.old u.0 }
-{
-    if last {
-        write_node(tree, u, blank_node());
-    }
+    records::pour(tree, usize::from(u.0) * STRIDE, &bytes_of(n));
 }
 
 // ---- ways
@@ -131,25 +80,13 @@ fn blank_if(tree: &mut [u8; 6656], u: NodeUnit, last: bool)
 pub fn ways_of(counts: &[u16; 512], u: NodeUnit) -> u16
     ensures { result ≡ get_or counts.now u.0 0 }
 {
-    let at = u.0 as usize;
-    counts[at]
+    counts[usize::from(u.0)]
 }
 
 fn last_way(counts: &[u16; 512], u: NodeUnit) -> bool
     ensures { result ≡ last_way counts.now u.0 }
 {
-    let at = u.0 as usize;
-    counts[at] <= 1
-}
-
-// Never below 0, so that no array makes it wrap.
-fn less(c: u16, by: u16) -> u16
-    ensures { result ≡ c - by }
-{
-    if c < by {
-        return 0;
-    }
-    c - by
+    counts[usize::from(u.0)] <= 1
 }
 
 // One way to the node goes, and with the last way the node: the answer says whether it went.
@@ -159,10 +96,11 @@ pub fn drop_way(tree: &mut [u8; 6656], counts: &mut [u16; 512], u: NodeUnit) -> 
     ensures died { result ≡ last_way counts.old u.0 }
 {
     let last = last_way(counts, u);
-    blank_if(tree, u, last);
-    let at = u.0 as usize;
-    let ways = less(counts[at], 1);
-    counts[at] = ways;
+    if last {
+        write_node(tree, u, Node::default());
+    }
+    let at = usize::from(u.0);
+    counts[at] = counts[at].saturating_sub(1);
     last
 }
 
@@ -172,8 +110,7 @@ pub fn add_node(tree: &mut [u8; 6656], counts: &mut [u16; 512], u: NodeUnit, n: 
     ensures counts { counts.new ≡ set counts.old u.0 1 }
 {
     write_node(tree, u, n);
-    let at = u.0 as usize;
-    counts[at] = 1;
+    counts[usize::from(u.0)] = 1;
 }
 
 // ---- places
@@ -181,36 +118,7 @@ pub fn add_node(tree: &mut [u8; 6656], counts: &mut [u16; 512], u: NodeUnit, n: 
 pub fn places_of(counts: &[u16; 512], b: BranchRoot) -> u16
     ensures { result ≡ get_or counts.now (place_of b.0) 0 }
 {
-    let root = b.0 as usize;
-    counts[PLACES + root]
-}
-
-// The highest count stays, so that no array makes it wrap.
-fn one_more(c: u16) -> u16
-    ensures { result ≡ one_more c }
-{
-    if c < Count::MOST {
-        return c + 1;
-    }
-    c
-}
-
-pub fn add_place(counts: &mut [u16; 512], b: BranchRoot)
-    ensures { counts.new ≡ add_place counts.old b.0 }
-{
-    let root = b.0 as usize;
-    let at = PLACES + root;
-    let places = one_more(counts[at]);
-    counts[at] = places;
-}
-
-pub fn drop_place(counts: &mut [u16; 512], b: BranchRoot)
-    ensures { counts.new ≡ drop_place counts.old b.0 }
-{
-    let root = b.0 as usize;
-    let at = PLACES + root;
-    let places = less(counts[at], 1);
-    counts[at] = places;
+    counts[PLACES + usize::from(b.0)]
 }
 
 // The places from, from + 1, .. below `to`, of eight.
@@ -222,36 +130,40 @@ pub fn part(places: &[u8; 8], from: u8, to: u8) -> &[u8]
     &places[start..end]
 }
 
-// A node has eight places.
+// The end of a run of places: a node has eight.
 pub fn up_to(to: u8) -> usize
     ensures { (result ≤ room) × (result ≡ up_to to) }
 {
-    if to < 8 {
-        return to as usize;
-    }
-    8
+    usize::from(to).min(8)
 }
 
-// One more place for each of the buffers at from, from + 1, .. below `to`.
-pub fn add_places(counts: &mut [u16; 512], bs: [u8; 8], from: u8, to: u8)
-    ensures { counts.new ≡ add_places counts.old (slice from (to - from) bs) }
+// The count of each branch becomes what `f` makes of it, one branch after the other.
+fn change_places<F: Fn(u16) -> u16>(counts: &mut [u16; 512], bs: &[u8], f: F)
+    requires { F.IsAlwaysCallable f }
+    ensures { (g : ℕ → ℕ) → Computes (F.post f) g → counts.new ≡ change_places g counts.old bs.now }
 {
-    let end = up_to(to);
-    let mut i = from as usize;
-    while i < end {
-        add_place(counts, BranchRoot(bs[i]));
-        i += 1;
+    for &b in bs {
+        let at = PLACES + usize::from(b);
+        counts[at] = f(counts[at]);
     }
 }
 
-// One place less for each of them.
-pub fn drop_places(counts: &mut [u16; 512], bs: [u8; 8], from: u8, to: u8)
-    ensures { counts.new ≡ drop_places counts.old (slice from (to - from) bs) }
+// One more place for each of the branches; the highest count stays, so that no array makes it wrap.
+pub fn add_places(counts: &mut [u16; 512], bs: &[u8])
+    ensures { counts.new ≡ add_places counts.old bs.now }
 {
-    let end = up_to(to);
-    let mut i = from as usize;
-    while i < end {
-        drop_place(counts, BranchRoot(bs[i]));
-        i += 1;
-    }
+    change_places(counts, bs, |c| c.saturating_add(1));
+}
+
+// One place less for each of them, and never below 0.
+pub fn drop_places(counts: &mut [u16; 512], bs: &[u8])
+    ensures { counts.new ≡ drop_places counts.old bs.now }
+{
+    change_places(counts, bs, |c| c.saturating_sub(1));
+}
+
+pub fn add_place(counts: &mut [u16; 512], b: BranchRoot)
+    ensures { counts.new ≡ add_place counts.old b.0 }
+{
+    add_places(counts, &[b.0]);
 }

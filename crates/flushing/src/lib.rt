@@ -73,7 +73,7 @@ pub fn flush(
     counting::add_node(tree, counts, f, shapes::flush_parent(n, c, gc, g));
     counting::add_node(tree, counts, g, shapes::flush_child(n, ends.below, c));
     pathed::leave(tree, counts, map, copied, ends.target, ends.child);
-    counting::drop_places(counts, buffers, 0, gc);
-    counting::add_places(counts, buffers, offset, n.buffer_number);
+    counting::drop_places(counts, counting::part(&buffers, 0, gc));
+    counting::add_places(counts, counting::part(&buffers, offset, n.buffer_number));
     allocation::sweep(counts, hold, map, buffers);
 }

@@ -1,8 +1,10 @@
 -- A row is a run of bytes that stands at a place of a list. Pouring stores a row: it then stands there, and a row apart from it stands
 -- as before. Every record of the lent arrays is read and stored through these. Assumes nothing.
 use Rattle.std.specs.Prelude.{◌⊎◌, Bool, true, false, ◌≡◌, refl, List, [], ◌∷◌, ◌++◌, ℕ, zero, suc, ◌+◌, ◌-◌, ◌*◌, ◌≤◌, ◌<◌, ltb, length, get_or, set, take, drop, replicate}
-use Rattle.std.proofs.Common.{inl, inr, ⊎_elim, ap, sym, ◌∙◌, eq-or-lt_of_le, mul-le-mul_right, suc-mul, add-one, arith, length-set, length-drop, get_or-set_same, get_or-set_other, take_all, ltb-true, ltb-false}
+use Rattle.std.proofs.Common.{inl, inr, ⊎_elim, ap, sym, ◌∙◌, eq-or-lt_of_le, mul-le-mul_right, suc-mul, add-one, arith, length-set, length-drop, get_or-set_same, get_or-set_other, take_all, append-nil, ltb-true, ltb-false}
+use Rattle.std.proofs.Math.Seq.{paste}
 use Rattle.std.proofs.lemmas.List.{take-append-le, drop-append-le}
+use Rattle.std.proofs.lemmas.List.Edits.{paste_none, paste_more}
 use Rattle.ways.proofs.Tests.{same_or}
 use Rattle.units.specs.Limits.{room}
 use Rattle.rules.specs.Tables.{slice}
@@ -39,19 +41,19 @@ poured_to l at src (suc n) = set (poured_to l at src n) (at + n) (get_or src n 0
 unfoldable pub poured : List ℕ → ℕ → List ℕ → List ℕ
 poured l at src = poured_to l at src (length src)
 
--- ---- the loop
+-- ---- it is the library's paste
 
-pub poured_start : (l : List ℕ) (at : ℕ) (src : List ℕ) → l ≡ poured_to l at src 0
+to_paste : (l : List ℕ) (at : ℕ) (src : List ℕ) (n : ℕ) → at + n ≤ length l → n ≤ length src → poured_to l at src n ≡ paste l at src n
 unfolding poured_to
-poured_start l at src = refl
+to_paste l at src zero h q = paste_none l at src
+to_paste l at src (suc n) h q =
+    ap (λ (x : List ℕ). set x (at + n) (get_or src n 0)) (to_paste l at src n (omega arith) (omega arith))
+    ∙ paste_more l at src n 0 (omega arith) (omega arith)
+    ∙ ap (paste l at src) (add-one n)
 
-pub poured_turn : (l : List ℕ) (at : ℕ) (src b : List ℕ) (n : ℕ) → b ≡ poured_to l at src n → set b (at + n) (get_or src n 0) ≡ poured_to l at src (n + 1)
-unfolding poured_to
-poured_turn l at src b n e = rw (e, add-one) refl
-
-pub poured_end : (l : List ℕ) (at : ℕ) (src b : List ℕ) (n : ℕ) → n ≡ length src → b ≡ poured_to l at src n → b ≡ poured l at src
+pub poured_paste : (l : List ℕ) (at : ℕ) (src : List ℕ) → at + length src ≤ length l → poured l at src ≡ paste l at src (length src)
 unfolding poured
-poured_end l at src b n q e = rw (← q) e
+poured_paste l at src h = to_paste l at src (length src) h (omega arith)
 
 -- ---- what stands after it
 
@@ -163,6 +165,11 @@ eight_pad (a ∷ b ∷ c ∷ d ∷ e ∷ f ∷ []) h = refl
 eight_pad (a ∷ b ∷ c ∷ d ∷ e ∷ f ∷ g ∷ []) h = refl
 eight_pad (a ∷ b ∷ c ∷ d ∷ e ∷ f ∷ g ∷ x ∷ []) h = refl
 eight_pad (a ∷ b ∷ c ∷ d ∷ e ∷ f ∷ g ∷ x ∷ y ∷ r) h = absurd (omega arith)
+
+pub eight_all : (l : List ℕ) → length l ≡ room → l ≡ eight l
+eight_all l e =
+    let none : room - length l ≡ 0 = omega arith in
+    sym (eight_pad l (omega arith) ∙ ap (λ (k : ℕ). l ++ replicate k 0) none ∙ append-nil l)
 
 -- a run of the used places is a run of the list
 pub eight_slice : (l : List ℕ) (from to : ℕ) → length l ≤ room → from ≤ to → to ≤ length l → slice from (to - from) (eight l) ≡ slice from (to - from) l

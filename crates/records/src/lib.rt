@@ -10,11 +10,7 @@ pub fn pour(s: &mut [u8], at: usize, src: &[u8])
     requires { at + length src.now ≤ length s.old }
     ensures { s.new ≡ poured s.old at src.now }
 {
-    let mut i: usize = 0;
-    while i < src.len() {
-        s[at + i] = src[i];
-        i += 1;
-    }
+    s[at..at + src.len()].copy_from_slice(src);
 }
 
 // The eight bytes from `at` on.
@@ -22,16 +18,9 @@ pub fn eight(s: &[u8], at: usize) -> [u8; 8]
     requires { at + room ≤ length s.now }
     ensures { result ≡ eight_at s.now at }
 {
-    [
-        s[at],
-        s[at + 1],
-        s[at + 2],
-        s[at + 3],
-        s[at + 4],
-        s[at + 5],
-        s[at + 6],
-        s[at + 7],
-    ]
+    let mut read = [0; 8];
+    read.copy_from_slice(&s[at..at + 8]);
+    read
 }
 
 // What the type of a byte says, told to the proofs: each is below 256. The code does nothing with it.

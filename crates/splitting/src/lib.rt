@@ -60,11 +60,10 @@ pub fn split(tree: &mut [u8; 6656], counts: &mut [u16; 512], map: &mut [u64; 4],
     let ends = pathed::ends_of(tree, &is[..k], c);
     let n = ends.node;
     let m = ends.below;
-    let buffers = m.buffers;
     let copied = pathed::copy(tree, counts, map, &is[..k], &fs[..k], &units, f);
     counting::add_node(tree, counts, f, shapes::split_parent(n, c, l, r));
     counting::add_node(tree, counts, l, shapes::left_of(m, a));
     counting::add_node(tree, counts, r, shapes::right_of(m, a));
     pathed::leave(tree, counts, map, copied, ends.target, ends.child);
-    counting::add_places(counts, buffers, 0, m.buffer_number);
+    counting::add_places(counts, counting::part(&m.buffers, 0, m.buffer_number));
 }

@@ -1,21 +1,14 @@
-use Rattle.std.proofs.Common.{arith, rules}
-use Rattle.counting.specs.Places.{add_place}
-use Rattle.counting.proofs.Each.{each_start, each_turn, each_end}
+use Rattle.std.proofs.Common.{◌≡◌, ◌+◌, ltb, arith, ltb-true, ltb-false}
+use Rattle.std.proofs.lemmas.Bool.{cond_both}
+use Rattle.units.specs.Limits.{most_count}
+use Rattle.counting.specs.Places.{one_more, add_place}
 use Rattle.counting.proofs.add_places.Goals as goal
 
-pub loop-i-init : goal.loop-i-init
-loop-i-init c = record {
-  within = search rules;
-  whole = search rules;
-  left = each_start add_place c.args.counts.now c.args.bs c.args.from c.args.to c.up_to-end.result (search rules) c.up_to-end.ensures.1;
-}
-
-pub loop-i-preserved : goal.loop-i-preserved
-loop-i-preserved c = record {
-  within = search rules;
-  whole = search rules;
-  left = each_turn add_place c.loop-i.counts c.add_place.new.counts c.args.bs c.loop-i.i c.up_to-end.result _ (search rules) (omega arith) c.add_place.ensures c.loop-i.invariant.left;
-}
-
 pub returns : goal.returns
-returns c = each_end add_place c.loop-i.counts c.args.bs c.loop-i.i c.up_to-end.result _ (search rules) c.loop-i.invariant.left
+unfolding one_more add_place
+returns c =
+    c.change_places.ensures one_more
+    (λ n r fits met.
+    cond_both (ltb n most_count) (n + 1) n (λ x. r ≡ x)
+    (λ e. omega (arith, ltb-true n most_count e, met))
+    (λ e. omega (arith, ltb-false n most_count e, met)))

@@ -1,12 +1,14 @@
-use Rattle.std.proofs.Common.{arith}
-use borrow.Author.Tests.{lt-ltb, le-ltb}
+use Rattle.std.proofs.Common.{◌≡◌, ltb, arith, ltb-true, ltb-false}
+use Rattle.std.proofs.lemmas.Bool.{cond_both}
+use Rattle.units.specs.Limits.{room}
 use Rattle.counting.specs.Places.{up_to}
 use Rattle.counting.proofs.up_to.Goals as goal
 
-pub returns-then-to-lt8 : goal.returns-then-to-lt8
-unfolding up_to
-returns-then-to-lt8 c = (omega arith, simp (lt-ltb _ _ c.if-to-lt8.true))
-
 pub returns : goal.returns
 unfolding up_to
-returns c = (omega arith, simp (le-ltb _ _ c.if-to-lt8.false))
+returns c = (
+  omega arith,
+  cond_both (ltb c.args.to room) c.args.to room (λ x. c.min.result ≡ x)
+      (λ e. omega (arith, ltb-true c.args.to room e))
+      (λ e. omega (arith, ltb-false c.args.to room e)),
+)

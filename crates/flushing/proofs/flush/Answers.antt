@@ -17,7 +17,7 @@ returns-clause-counts c =
     c.copy-copied.ensures.tree c.copy-copied.ensures.counts c.copy-copied.ensures.map c.copy-copied.ensures.copied
     c.flush_parent.ensures c.flush_child.ensures
     c.add_node.ensures.tree c.add_node-2.ensures.tree c.add_node.ensures.counts c.add_node-2.ensures.counts
-    _ _ _ c.leave.ensures.counts c.drop_places.ensures c.add_places.ensures
+    _ _ _ c.leave.ensures.counts (rw c.part.ensures at c.drop_places.ensures) (rw c.part-2.ensures at c.add_places.ensures)
 
 pub returns-clause-hold : goal.returns-clause-hold
 returns-clause-hold c =
@@ -26,7 +26,7 @@ returns-clause-hold c =
     c.copy-copied.ensures.tree c.copy-copied.ensures.counts c.copy-copied.ensures.map c.copy-copied.ensures.copied
     c.flush_parent.ensures c.flush_child.ensures
     c.add_node.ensures.tree c.add_node-2.ensures.tree c.add_node.ensures.counts c.add_node-2.ensures.counts
-    _ _ _ c.leave.ensures.counts c.drop_places.ensures c.add_places.ensures _ _ c.sweep.ensures.hold
+    _ _ _ c.leave.ensures.counts (rw c.part.ensures at c.drop_places.ensures) (rw c.part-2.ensures at c.add_places.ensures) _ _ c.sweep.ensures.hold
 
 pub returns-clause-map : goal.returns-clause-map
 returns-clause-map c =
@@ -35,4 +35,4 @@ returns-clause-map c =
     c.copy-copied.ensures.tree c.copy-copied.ensures.counts c.copy-copied.ensures.map c.copy-copied.ensures.copied
     c.flush_parent.ensures c.flush_child.ensures
     c.add_node.ensures.tree c.add_node-2.ensures.tree c.add_node.ensures.counts c.add_node-2.ensures.counts
-    _ _ _ c.leave.ensures.counts c.drop_places.ensures c.add_places.ensures _ _ _ c.leave.ensures.map c.sweep.ensures.map
+    _ _ _ c.leave.ensures.counts (rw c.part.ensures at c.drop_places.ensures) (rw c.part-2.ensures at c.add_places.ensures) _ _ _ c.leave.ensures.map c.sweep.ensures.map

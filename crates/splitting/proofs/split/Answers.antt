@@ -15,7 +15,7 @@ returns-clause-counts c =
     c.ends_of-ends.ensures c.copy-copied.result _ _ _ _ _ _ _ _ _ _ c.split_parent.result c.left_of.result c.right_of.result
     c.copy-copied.ensures.tree c.copy-copied.ensures.counts c.copy-copied.ensures.map c.copy-copied.ensures.copied c.split_parent.ensures
     c.left_of.ensures c.right_of.ensures c.add_node.ensures.tree c.add_node-2.ensures.tree c.add_node-3.ensures.tree c.add_node.ensures.counts
-    c.add_node-2.ensures.counts c.add_node-3.ensures.counts _ c.leave.ensures.counts c.add_places.ensures
+    c.add_node-2.ensures.counts c.add_node-3.ensures.counts _ c.leave.ensures.counts (rw c.part.ensures at c.add_places.ensures)
 
 pub returns-clause-map : goal.returns-clause-map
 returns-clause-map c =
