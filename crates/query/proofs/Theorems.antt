@@ -2,14 +2,18 @@
 -- the number of held units. Assumes nothing.
 use mathlib.Core.Bool.{Bool, true, false, cond}
 use mathlib.Core.Path.{◌≡◌, refl, ap, sym, ◌∙◌, subst}
-use mathlib.Core.List.{List, [], ◌∷◌}
+use mathlib.Core.List.{List, [], ◌∷◌, map}
 use mathlib.Core.Option.{Option, none, some}
 use Prim.Native.Nat.{ℕ, zero, suc, ◌+◌, ◌-◌, ◌≤◌, ◌<◌}
 use native.Mathlib.Omega.{arith}
 use lib.Dec.{T, eqb, leb}
 use lib.ListN.{length, get_or, take}
-use borrow.Author.Tests.{lt-ltb, leb-true}
+use borrow.Author.Tests.{leb-true}
+use Rattle.std.specs.Prelude.{Some, None, find}
+use Rattle.std.specs.Prelude as code
 use Rattle.units.specs.Limits.{last_unit, room, slot_count}
+use Rattle.units.specs.declared.BranchRoot.{BranchRoot}
+use Rattle.units.specs.declared.UnfinishedSlot.{UnfinishedSlot}
 use Rattle.ways.specs.Ways.{sums, one, has}
 use Rattle.ways.proofs.Tests.{T→eq, F→eq, and_l, and_r}
 use Rattle.rules.specs.Tables.{all, range, is_some, or_else}
@@ -23,7 +27,7 @@ use Rattle.held_map.specs.Map.{held_in, held_number}
 use Rattle.held_map.proofs.Numbers.{number_units}
 use Rattle.tables.proofs.Kept.{branch_read_lem, slot_read_lem}
 use Rattle.state.specs.Stands.{Arrays, Stands}
-use Rattle.query.specs.Owners.{first_or, in_branch, in_slot, branch_with, slot_with, slot_or, branch_or, node_or, query_in, owner_of}
+use Rattle.query.specs.Owners.{in_branch, in_slot, branch_with, slot_with, slot_or, branch_or, node_or, query_in, owner_of}
 
 -- the used places of a record are its list
 used : (us : List ℕ) → length us ≤ room → take (length us) (eight us) ≡ us
@@ -33,14 +37,23 @@ used us h =
 
 -- ---- the first that passes
 
-first_that_lem : (d n k : ℕ) (f g : ℕ → Bool) → ((b : ℕ) → k ≤ b → b < k + n → f b ≡ g b) → first_or d f (range n k) ≡ or_else d (first_that g (range n k))
-first_that_lem d zero k f g h = refl
-first_that_lem d (suc n) k f g h =
-    ap (λ (b : Bool). cond b k (first_or d f (range n (suc k)))) (h k (omega arith) (omega arith))
-    ∙ go (g k) (first_that_lem d n (suc k) f g (λ b p q. h b (omega arith) (omega arith)))
+-- a root that the rules found, as code gives it
+abbrev root_of : Option ℕ → code.Option BranchRoot
+root_of none = None
+root_of (some b) = Some (record { 0 = b })
+
+first_that_lem : (n k : ℕ) (f g : ℕ → Bool) → ((b : ℕ) → k ≤ b → b < k + n → f b ≡ g b)
+    → find (λ (b : BranchRoot). f b.0) (map (λ b. record { 0 = b }) (range n k)) ≡ root_of (first_that g (range n k))
+first_that_lem zero k f g h = refl
+first_that_lem (suc n) k f g h =
+    ap (λ (b : Bool). cond b (Some (record { 0 = k })) (later (suc k))) (h k (omega arith) (omega arith))
+    ∙ go (g k) (first_that_lem n (suc k) f g (λ b p q. h b (omega arith) (omega arith)))
   where
-    go : (b : Bool) → first_or d f (range n (suc k)) ≡ or_else d (first_that g (range n (suc k)))
-        → cond b k (first_or d f (range n (suc k))) ≡ or_else d (cond b (some k) (first_that g (range n (suc k))))
+    later : ℕ → code.Option BranchRoot
+    later k = find (λ (b : BranchRoot). f b.0) (map (λ b. record { 0 = b }) (range n k))
+
+    go : (b : Bool) → later (suc k) ≡ root_of (first_that g (range n (suc k)))
+        → cond b (Some (record { 0 = k })) (later (suc k)) ≡ root_of (cond b (some k) (first_that g (range n (suc k))))
     go true e = refl
     go false e = e
 
@@ -52,20 +65,22 @@ first_in_lem (suc n) k g b e = go (g k) e (first_in_lem n (suc k) g b)
     go true e ih = let q : k ≡ b = cc in (omega arith, omega arith)
     go false e ih = let w = ih e in (omega (arith, w.0), omega (arith, w.1))
 
-slots_that : (f : ℕ → Bool) (u k : ℕ) (xs : List Slot) → k + length xs ≡ slot_count
-    → ((j : ℕ) → j < length xs → f (k + j) ≡ has u (slot_units (get_or xs j empty)))
-    → slot_or (first_or slot_count f (range (length xs) k)) ≡ owner_of (rules.slot_with u k xs)
-slots_that f u k [] e h = refl
-slots_that f u k (x ∷ xs) e h =
+slots_that : (f : ℕ → Bool) (u k : ℕ) (xs : List Slot) → ((j : ℕ) → j < length xs → f (k + j) ≡ has u (slot_units (get_or xs j empty)))
+    → slot_or (find (λ (x : UnfinishedSlot). f x.0) (map (λ j. record { 0 = j }) (range (length xs) k))) ≡ owner_of (rules.slot_with u k xs)
+slots_that f u k [] h = refl
+slots_that f u k (x ∷ xs) h =
     let z : k + 0 ≡ k = omega arith in
     let s : (j : ℕ) → suc k + j ≡ k + suc j = λ j. omega arith in
-    ap (λ (b : Bool). slot_or (cond b k (first_or slot_count f (range (length xs) (suc k))))) (ap f (sym z) ∙ h 0 (omega arith))
-    ∙ go (has u (slot_units x)) (slots_that f u (suc k) xs (omega arith) (λ j q. ap f (s j) ∙ h (suc j) (omega arith)))
+    ap (λ (b : Bool). slot_or (cond b (Some (record { 0 = k })) later)) (ap f (sym z) ∙ h 0 (omega arith))
+    ∙ go (has u (slot_units x)) (slots_that f u (suc k) xs (λ j q. ap f (s j) ∙ h (suc j) (omega arith)))
   where
-    go : (b : Bool) → slot_or (first_or slot_count f (range (length xs) (suc k))) ≡ owner_of (rules.slot_with u (suc k) xs)
-        → slot_or (cond b k (first_or slot_count f (range (length xs) (suc k)))) ≡ owner_of (cond b (a_slot k) (rules.slot_with u (suc k) xs))
-    go true e' = let q : k < slot_count = omega arith in rw (lt-ltb k slot_count q)
-    go false e' = e'
+    later : code.Option UnfinishedSlot
+    later = find (λ (x : UnfinishedSlot). f x.0) (map (λ j. record { 0 = j }) (range (length xs) (suc k)))
+
+    go : (b : Bool) → slot_or later ≡ owner_of (rules.slot_with u (suc k) xs)
+        → slot_or (cond b (Some (record { 0 = k })) later) ≡ owner_of (cond b (a_slot k) (rules.slot_with u (suc k) xs))
+    go true e = refl
+    go false e = e
 
 -- ---- the owner
 
@@ -100,30 +115,29 @@ module _ (s : Store) (r : Right s) (a : Arrays) (st : Stands s a) where
       few (x ∷ xs) zero t = one_few x (and_l (slot_ok x) (all slot_ok xs) t)
       few (x ∷ xs) (suc k) t = few xs k (and_r (slot_ok x) (all slot_ok xs) t)
 
-  branch_with_lem : (u : ℕ) → branch_with a.hold u ≡ or_else 0 (first_that (λ b. has u (units_of s b)) (range last_unit 1))
+  branch_with_lem : (u : ℕ) → branch_with a.hold u ≡ root_of (first_that (λ b. has u (units_of s b)) (range last_unit 1))
   unfolding branch_with
-  branch_with_lem u = first_that_lem 0 last_unit 1 (in_branch a.hold u) (λ b. has u (units_of s b)) (λ b p q. in_branch_lem u b (omega arith))
+  branch_with_lem u = first_that_lem last_unit 1 (in_branch a.hold u) (λ b. has u (units_of s b)) (λ b p q. in_branch_lem u b (omega arith))
 
   slot_with_lem : (u : ℕ) → slot_or (slot_with a.hold u) ≡ owner_of (rules.slot_with u 0 s.slots)
   unfolding slot_with
   slot_with_lem u =
       let n : length s.slots ≡ slot_count = r.sound.slot_number in
       let z : (j : ℕ) → 0 + j ≡ j = λ j. omega arith in
-      ap (λ (m : ℕ). slot_or (first_or slot_count (in_slot a.hold u) (range m 0))) (sym n)
-      ∙ slots_that (in_slot a.hold u) u 0 s.slots (omega arith) (λ j q. ap (in_slot a.hold u) (z j) ∙ in_slot_lem u j (omega arith))
+      ap (λ (m : ℕ). slot_or (find (λ (x : UnfinishedSlot). in_slot a.hold u x.0) (map (λ j. record { 0 = j }) (range m 0)))) (sym n)
+      ∙ slots_that (in_slot a.hold u) u 0 s.slots (λ j q. ap (in_slot a.hold u) (z j) ∙ in_slot_lem u j (omega arith))
 
   branch_or_lem : (u : ℕ) → branch_or a.counts (branch_with a.hold u) (slot_or (slot_with a.hold u)) ≡ owner_of (listed s u)
   branch_or_lem u =
-      ap (λ (b : ℕ). branch_or a.counts b (slot_or (slot_with a.hold u))) (branch_with_lem u)
+      ap (λ (b : code.Option BranchRoot). branch_or a.counts b (slot_or (slot_with a.hold u))) (branch_with_lem u)
       ∙ go (first_that (λ b. has u (units_of s b)) (range last_unit 1)) refl
     where
       go : (o : Option ℕ) → first_that (λ b. has u (units_of s b)) (range last_unit 1) ≡ o
-          → branch_or a.counts (or_else 0 o) (slot_or (slot_with a.hold u)) ≡ owner_of (rules.branch_or s (rules.slot_with u 0 s.slots) o)
+          → branch_or a.counts (root_of o) (slot_or (slot_with a.hold u)) ≡ owner_of (rules.branch_or s (rules.slot_with u 0 s.slots) o)
       go none e = slot_with_lem u
       go (some b) e =
           let w = first_in_lem last_unit 1 (λ b. has u (units_of s b)) b e in
-          let p : 0 < b = omega (arith, w.0) in
-          rw (lt-ltb 0 b p, st.counts.place b (omega (arith, w.1)))
+          rw (st.counts.place b (omega (arith, w.1)))
 
   node_or_lem : (u : ℕ) → u ≤ last_unit
       → node_or (get_or a.counts u 0) (branch_or a.counts (branch_with a.hold u) (slot_or (slot_with a.hold u)))

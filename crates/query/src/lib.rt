@@ -5,64 +5,53 @@ ghost use Rattle.std.specs.Prelude.{◌≡◌};
 ghost use Rattle.held_map.specs.Map.{held_number};
 ghost use Rattle.query.specs.Owners.{in_branch, in_slot, branch_with, slot_with, query_in};
 
-use units::{BranchRoot, NodeUnit, UnfinishedSlot};
+use units::{BranchRoot, Count, NodeUnit, UnfinishedSlot};
 
 // A node with its count, a branch with its root and its count, a slot with its number.
-#[derive(Clone, Copy)]
+#[derive(Clone, Copy, Debug, PartialEq, Eq)]
 pub enum Owner {
     Reserved,
     Free,
-    Node(u16),
-    Branch(u8, u16),
-    Slot(u8),
+    Node(Count),
+    Branch(BranchRoot, Count),
+    Slot(UnfinishedSlot),
 }
 
-fn in_branch(hold: &[u8; 2380], b: u8, u: u8) -> bool
-    ensures { result ≡ in_branch hold.now u b }
+#[tactic(auto, unfolding(crate::specs::Owners::in_branch))]
+fn in_branch(hold: &[u8; 2380], b: BranchRoot, u: u8) -> bool
+    ensures { result ≡ in_branch hold.now u b.0 }
 {
-    let x = tables::read_branch(hold, BranchRoot(b));
-    let units = x.units;
-    let number = x.number;
-    tables::among(units, number, u)
+    let x = tables::read_branch(hold, b);
+    tables::among(x.units, x.number, u)
 }
 
-fn in_slot(hold: &[u8; 2380], k: u8, u: u8) -> bool
-    ensures { result ≡ in_slot hold.now u k }
+#[tactic(auto, unfolding(crate::specs::Owners::in_slot))]
+fn in_slot(hold: &[u8; 2380], k: UnfinishedSlot, u: u8) -> bool
+    ensures { result ≡ in_slot hold.now u k.0 }
 {
-    let x = tables::read_slot(hold, UnfinishedSlot(k));
-    let units = x.units;
-    let number = x.number;
-    tables::among(units, number, u)
+    let x = tables::read_slot(hold, k);
+    tables::among(x.units, x.number, u)
 }
 
-// The lowest root of a branch that has the unit, or 0.
-fn branch_with(hold: &[u8; 2380], u: u8) -> u8
+// The lowest root of a branch that has the unit.
+fn branch_with(hold: &[u8; 2380], u: u8) -> Option<BranchRoot>
     ensures { result ≡ branch_with hold.now u }
 {
-    let mut k: u8 = 0;
-    while k < BranchRoot::LAST {
-        if in_branch(hold, k + 1, u) {
-            return k + 1;
-        }
-        k += 1;
-    }
-    BranchRoot::NONE
+    (1..=BranchRoot::LAST)
+        .map(BranchRoot)
+        .find(|b| in_branch(hold, *b, u))
 }
 
-// The first slot that has the unit, or the number of slots.
-fn slot_with(hold: &[u8; 2380], u: u8) -> u8
+// The first slot that has the unit.
+fn slot_with(hold: &[u8; 2380], u: u8) -> Option<UnfinishedSlot>
     ensures { result ≡ slot_with hold.now u }
 {
-    let mut k: u8 = 0;
-    while k < UnfinishedSlot::COUNT {
-        if in_slot(hold, k, u) {
-            return k;
-        }
-        k += 1;
-    }
-    UnfinishedSlot::COUNT
+    (0..UnfinishedSlot::COUNT)
+        .map(UnfinishedSlot)
+        .find(|k| in_slot(hold, *k, u))
 }
 
+#[tactic(auto, unfolding(crate::specs::Owners::query_in))]
 pub fn query(counts: &[u16; 512], hold: &[u8; 2380], unit: u8) -> Owner
     ensures { result ≡ query_in counts.now hold.now unit }
 {
@@ -71,15 +60,12 @@ pub fn query(counts: &[u16; 512], hold: &[u8; 2380], unit: u8) -> Owner
     }
     let ways = counting::ways_of(counts, NodeUnit(unit));
     if 0 < ways {
-        return Owner::Node(ways);
+        return Owner::Node(Count(ways));
     }
-    let root = branch_with(hold, unit);
-    if 0 < root {
-        let places = counting::places_of(counts, BranchRoot(root));
-        return Owner::Branch(root, places);
+    if let Some(root) = branch_with(hold, unit) {
+        return Owner::Branch(root, Count(counting::places_of(counts, root)));
     }
-    let slot = slot_with(hold, unit);
-    if slot < UnfinishedSlot::COUNT {
+    if let Some(slot) = slot_with(hold, unit) {
         return Owner::Slot(slot);
     }
     Owner::Free

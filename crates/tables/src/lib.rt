@@ -22,259 +22,199 @@ const SLOTS: usize = 2304;
 
 const INPUTS: usize = 2344;
 
-// The states of a slot.
-const EMPTY: u8 = 0;
-
-const OPEN: u8 = 1;
-
-const SEALED: u8 = 2;
-
-#[derive(Clone, Copy)]
+#[derive(Clone, Copy, Debug, Default, PartialEq, Eq)]
 pub struct Branch {
     pub number: u8,
     pub units: [u8; 8],
 }
 
-#[derive(Clone, Copy)]
+#[derive(Clone, Copy, Debug, Default, PartialEq, Eq)]
 pub struct Slot {
     pub state: u8,
     pub number: u8,
     pub units: [u8; 8],
 }
 
-#[derive(Clone, Copy)]
+// A state is a byte: `slot_in`, which `read_slot` answers, keeps any byte that stands in the array, and an enum of the three states could
+// not. With a fourth variant for the other bytes, `Other(1)` would be a second spelling of `OPEN`.
+impl Slot {
+    pub const EMPTY: u8 = 0;
+
+    pub const OPEN: u8 = 1;
+
+    pub const SEALED: u8 = 2;
+}
+
+#[derive(Clone, Copy, Debug, Default, PartialEq, Eq)]
 pub struct Input {
     pub number: u8,
     pub roots: [u8; 8],
 }
 
 // The row of a branch or an input.
-fn list_row(number: u8, us: [u8; 8]) -> [u8; 9]
+fn list_row(number: u8, us: [u8; 8]) -> [u8; LIST_ROW]
     ensures { result ≡ number ∷ eight us }
 {
-    [
-        number, us[0], us[1], us[2], us[3], us[4], us[5], us[6], us[7],
-    ]
+    let mut row = [0; LIST_ROW];
+    row[0] = number;
+    row[1..].copy_from_slice(&us);
+    row
 }
 
-fn slot_row(x: Slot) -> [u8; 10]
+fn slot_row(x: Slot) -> [u8; SLOT_ROW]
     ensures { result ≡ slot_row x }
 {
-    let us = x.units;
-    [
-        x.state, x.number, us[0], us[1], us[2], us[3], us[4], us[5], us[6], us[7],
-    ]
+    let mut row = [0; SLOT_ROW];
+    row[0] = x.state;
+    row[1] = x.number;
+    row[2..].copy_from_slice(&x.units);
+    row
 }
 
 // ---- branches
 
+#[tactic(auto, unfolding(crate::specs::Hold::branch_in))]
 pub fn read_branch(hold: &[u8; 2380], b: BranchRoot) -> Branch
     ensures { result ≡ branch_in hold.now b.0 }
 {
-    let root = b.0;
-    let at = root as usize * LIST_ROW;
-    let units = records::eight(hold, at + 1);
+    let at = b.0 as usize * LIST_ROW;
     Branch {
         number: hold[at],
-        units,
+        units: records::eight(hold, at + 1),
     }
 }
 
+#[tactic(auto, unfolding(crate::specs::Hold::put_branch))]
 pub fn write_branch(hold: &mut [u8; 2380], b: BranchRoot, x: Branch)
     ensures { hold.new ≡ put_branch hold.old b.0 x }
 {
-    let root = b.0;
-    let number = x.number;
-    let us = x.units;
-    let row = list_row(number, us);
-    records::pour(hold, root as usize * LIST_ROW, &row);
+    records::pour(hold, b.0 as usize * LIST_ROW, &list_row(x.number, x.units));
 }
 
 pub fn blank_branch(hold: &mut [u8; 2380], b: BranchRoot)
     ensures { hold.new ≡ put_branch hold.old b.0 (coded_branch []) }
 {
-    write_branch(
-        hold,
-        b,
-        Branch {
-            number: 0,
-            units: [0u8; 8],
-        },
-    );
+    write_branch(hold, b, Branch::default());
 }
 
 // ---- unfinished slots
 
-fn no_slot() -> Slot
-    ensures { result ≡ coded_slot empty }
-{
-    Slot {
-        state: EMPTY,
-        number: 0,
-        units: [0u8; 8],
-    }
-}
-
+#[tactic(auto, unfolding(crate::specs::Hold::slot_in))]
 pub fn read_slot(hold: &[u8; 2380], k: UnfinishedSlot) -> Slot
     ensures { result ≡ slot_in hold.now k.0 }
 {
-    let slot = k.0;
-    if slot < UnfinishedSlot::COUNT {
-        let at = SLOTS + slot as usize * SLOT_ROW;
-        let units = records::eight(hold, at + 2);
-        return Slot {
-            state: hold[at],
-            number: hold[at + 1],
-            units,
-        };
+    if k.0 >= UnfinishedSlot::COUNT {
+        return Slot::default();
     }
-    no_slot()
+    let at = SLOTS + k.0 as usize * SLOT_ROW;
+    Slot {
+        state: hold[at],
+        number: hold[at + 1],
+        units: records::eight(hold, at + 2),
+    }
 }
 
+#[tactic(auto, unfolding(crate::specs::Hold::put_slot))]
 pub fn write_slot(hold: &mut [u8; 2380], k: UnfinishedSlot, x: Slot)
     ensures { hold.new ≡ put_slot hold.old k.0 x }
 {
-    let slot = k.0;
-    if slot >= UnfinishedSlot::COUNT {
-        return;
+    if k.0 < UnfinishedSlot::COUNT {
+        records::pour(hold, SLOTS + k.0 as usize * SLOT_ROW, &slot_row(x));
     }
-    let row = slot_row(x);
-    records::pour(hold, SLOTS + slot as usize * SLOT_ROW, &row);
 }
 
 pub fn empty_slot(hold: &mut [u8; 2380], k: UnfinishedSlot)
     ensures { hold.new ≡ put_slot hold.old k.0 (coded_slot empty) }
 {
-    write_slot(hold, k, no_slot());
+    write_slot(hold, k, Slot::default());
 }
 
 // The slot open, with u after its units; a full slot stays.
-pub fn taken(x: Slot, u: u8) -> Slot
+#[tactic(auto, unfolding(crate::specs::Slots::taken_slot))]
+pub fn taken(mut x: Slot, u: u8) -> Slot
     ensures { result ≡ taken_slot x u }
 {
-    let number = x.number;
-    if number < 8 {
-        let mut units = x.units;
-        let at = number as usize;
-        units[at] = u;
-        return Slot {
-            state: OPEN,
-            number: number + 1,
-            units,
-        };
+    if x.number < 8 {
+        x.units[x.number as usize] = u;
+        x.number += 1;
+        x.state = Slot::OPEN;
     }
     x
 }
 
 // The first n units, then zeros.
-fn first(us: [u8; 8], n: u8) -> [u8; 8]
+#[tactic(auto, unfolding(crate::specs::Slots::front))]
+fn first(mut us: [u8; 8], n: u8) -> [u8; 8]
     ensures { result ≡ front us n }
 {
-    let mut kept = us;
-    let mut i = n as usize;
-    while i < 8 {
-        kept[i] = 0;
-        i += 1;
-    }
-    kept
+    us[n.min(8) as usize..].fill(0);
+    us
 }
 
 // The slot sealed, with its first n units.
 pub fn sealed_to(x: Slot, n: u8) -> Slot
     ensures { result ≡ sealed_slot x n }
 {
-    let us = x.units;
-    let units = first(us, n);
     Slot {
-        state: SEALED,
+        state: Slot::SEALED,
         number: n,
-        units,
+        units: first(x.units, n),
     }
 }
 
 // ---- compactors' inputs
 
-fn no_input() -> Input
-    ensures { result ≡ coded_input [] }
-{
-    Input {
-        number: 0,
-        roots: [0u8; 8],
-    }
-}
-
+#[tactic(auto, unfolding(crate::specs::Hold::input_in))]
 pub fn read_input(hold: &[u8; 2380], k: CompactorSlot) -> Input
     ensures { result ≡ input_in hold.now k.0 }
 {
-    let slot = k.0;
-    if slot < CompactorSlot::COUNT {
-        let at = INPUTS + slot as usize * LIST_ROW;
-        let roots = records::eight(hold, at + 1);
-        return Input {
-            number: hold[at],
-            roots,
-        };
+    if k.0 >= CompactorSlot::COUNT {
+        return Input::default();
     }
-    no_input()
+    let at = INPUTS + k.0 as usize * LIST_ROW;
+    Input {
+        number: hold[at],
+        roots: records::eight(hold, at + 1),
+    }
 }
 
+#[tactic(auto, unfolding(crate::specs::Hold::put_input))]
 pub fn write_input(hold: &mut [u8; 2380], k: CompactorSlot, x: Input)
     ensures { hold.new ≡ put_input hold.old k.0 x }
 {
-    let slot = k.0;
-    if slot >= CompactorSlot::COUNT {
-        return;
+    if k.0 < CompactorSlot::COUNT {
+        records::pour(
+            hold,
+            INPUTS + k.0 as usize * LIST_ROW,
+            &list_row(x.number, x.roots),
+        );
     }
-    let number = x.number;
-    let roots = x.roots;
-    let row = list_row(number, roots);
-    records::pour(hold, INPUTS + slot as usize * LIST_ROW, &row);
 }
 
 pub fn end_input(hold: &mut [u8; 2380], k: CompactorSlot)
     ensures { hold.new ≡ put_input hold.old k.0 (coded_input []) }
 {
-    write_input(hold, k, no_input());
+    write_input(hold, k, Input::default());
 }
 
 // Whether u stands in the first `number` of the places; a number over 8 counts as 8.
 pub fn among(places: [u8; 8], number: u8, u: u8) -> bool
     ensures { result ≡ has u (take number places) }
 {
-    let end = number as usize;
-    let mut i: usize = 0;
-    while i < 8 {
-        if end <= i {
-            return false;
-        }
-        if places[i] == u {
-            return true;
-        }
-        i += 1;
-    }
-    false
+    places[..number.min(8) as usize].contains(&u)
 }
 
 // Whether the branch is among the roots of the input.
 pub fn names(x: Input, b: BranchRoot) -> bool
     ensures { result ≡ has b.0 (roots_of x) }
 {
-    let roots = x.roots;
-    let number = x.number;
-    among(roots, number, b.0)
+    among(x.roots, x.number, b.0)
 }
 
 // Whether some input names the branch.
+#[tactic(auto, unfolding(crate::specs::Hold::in_use_in))]
 pub fn in_use(hold: &[u8; 2380], b: BranchRoot) -> bool
     ensures { result ≡ in_use_in hold.now b.0 }
 {
-    let mut k: u8 = 0;
-    while k < CompactorSlot::COUNT {
-        let x = read_input(hold, CompactorSlot(k));
-        if names(x, b) {
-            return true;
-        }
-        k += 1;
-    }
-    false
+    (0..CompactorSlot::COUNT).any(|k| names(read_input(hold, CompactorSlot(k)), b))
 }

@@ -37,7 +37,7 @@ impl NodeUnit {
 }
 
 // The first unit of a branch, by which buffers and inputs name it.
-#[derive(Clone, Copy)]
+#[derive(Clone, Copy, Debug, PartialEq, Eq, PartialOrd, Ord, Hash)]
 pub struct BranchRoot(pub u8);
 
 impl BranchRoot {
@@ -66,7 +66,7 @@ impl BranchRoot {
 }
 
 // The number of an unfinished slot.
-#[derive(Clone, Copy)]
+#[derive(Clone, Copy, Debug, PartialEq, Eq, PartialOrd, Ord, Hash)]
 pub struct UnfinishedSlot(pub u8);
 
 impl UnfinishedSlot {
@@ -106,7 +106,7 @@ impl CompactorSlot {
 }
 
 // How often a node or a branch is counted.
-#[derive(Clone, Copy)]
+#[derive(Clone, Copy, Debug, PartialEq, Eq, PartialOrd, Ord, Hash)]
 pub struct Count(pub u16);
 
 impl Count {

@@ -1,14 +1,17 @@
-use Rattle.std.proofs.Common.{refl, sym, ◌∙◌, add-zero}
-use Rattle.units.specs.Limits.{slot_count}
+use Rattle.std.proofs.Common.{rules, tests, sym, ◌∙◌, refl}
+use Rattle.std.proofs.lemmas.Iterator.{YieldsList-from_range, YieldsList-from_map}
+use Rattle.std.proofs.lemmas.Iterator.Consumers.{YieldsList-at}
+use Rattle.std.proofs.lemmas.Iterator.Search.{find_from_yields_List}
+use Rattle.std.proofs.lemmas.Iterator.Adapters.{option_map_id}
+use Rattle.units.specs.declared.UnfinishedSlot.{UnfinishedSlot}
 use Rattle.query.specs.Owners.{in_slot, slot_with}
-use Rattle.query.proofs.Loops.{first_miss}
 use Rattle.query.proofs.slot_with.Goals as goal
 
-pub loop-k-init : goal.loop-k-init
+pub returns : goal.returns
 unfolding slot_with
-loop-k-init c = refl
-
-pub loop-k-preserved : goal.loop-k-preserved
-loop-k-preserved c =
-    first_miss slot_count (in_slot c.args.hold.now c.args.u) slot_count 0 c.loop-k.k _ c.loop-k.invariant c.loop-k-test.true
-    (rw add-zero (sym c.in_slot.ensures ∙ c.if-in_slot.false))
+returns c =
+    let numbers = YieldsList-from_range 0 4 4 refl refl in
+    sym (option_map_id _)
+    ∙ find_from_yields_List (λ (k : UnfinishedSlot). in_slot c.args.hold.now c.args.u k.0) _ _ c.find.result c.find.ensures.ran
+    (YieldsList-from_map _ (λ k. record { 0 = k }) (YieldsList-at c.map.ensures.source numbers) c.map.ensures.closure (λ x r q k. search rules))
+    (λ x b q k. search (rules, tests))
