@@ -1,13 +1,15 @@
-use Rattle.std.proofs.Common.{arith, sym, ◌∙◌}
-use Rattle.images.proofs.Passes.{padded_few, zeros_turn, zeros_stop}
+use Rattle.std.proofs.Common.{◌+◌, rules, eqb, ap, ◌∙◌}
+use Rattle.std.proofs.lemmas.Iterator.{YieldsList-from_slice}
+use Rattle.std.proofs.lemmas.Iterator.Search.{all_from_yields_List}
+use Rattle.std.specs.List.{list_all, slice_range}
+use borrow.Author.Tests.{tests}
+use Rattle.scan.proofs.Places.{unused}
 use Rattle.scan.proofs.padded.Goals as goal
 
-pub returns-then-b-p-ne0 : goal.returns-then-b-p-ne0
-returns-then-b-p-ne0 c =
-    let v = c.loop-i.invariant in
-    sym (padded_few c.args.p c.args.n c.args.b.now v.few ∙ v.left ∙ zeros_stop c.args.b.now c.args.p c.loop-i.i (omega arith) (omega arith) c.if-b-p-ne0.true)
-
-pub loop-i-preserved : goal.loop-i-preserved
-loop-i-preserved c =
-    let v = c.loop-i.invariant in
-    record { within = omega arith; few = v.few; left = v.left ∙ zeros_turn c.args.b.now c.args.p c.loop-i.i (omega arith) (omega arith) c.if-b-p-ne0.false }
+pub returns-then-n-le8 : goal.returns-then-n-le8
+returns-then-n-le8 c =
+    let b = c.args.b.now in
+    let p = c.args.p in
+    all_from_yields_List (λ x. eqb x 0) _ _ c.all.result c.all.ensures.ran (YieldsList-from_slice _ c.iter.ensures.rest) (λ x r q k. search (rules, tests))
+    ∙ ap (λ n. list_all (λ x. eqb x 0) (slice_range b (p + n) (p + 8))) c.from.ensures
+    ∙ unused p c.args.n b c.if-n-le8.true

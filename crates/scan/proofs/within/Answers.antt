@@ -1,16 +1,16 @@
-use Rattle.std.proofs.Common.{arith, sym, ◌∙◌}
-use Rattle.images.proofs.Laying.{within_turn, within_stop}
+use Rattle.std.proofs.Common.{ℕ, ◌+◌, rules, leb, ap, ◌∙◌}
+use Rattle.std.proofs.lemmas.Iterator.{YieldsList-from_slice}
+use Rattle.std.proofs.lemmas.Iterator.Search.{all_from_yields_List}
+use Rattle.std.specs.List.{list_all, slice_range}
+use borrow.Author.Tests.{tests}
+use Rattle.scan.proofs.Places.{used}
 use Rattle.scan.proofs.within.Goals as goal
 
-pub returns-then-most-b : goal.returns-then-most-b
-returns-then-most-b c =
-    sym (c.loop-i.invariant.left ∙ within_stop c.args.b.now c.args.p c.args.n c.loop-i.i c.args.most (omega arith) (omega arith) (omega arith) (omega arith))
-
-pub loop-i-preserved : goal.loop-i-preserved
-loop-i-preserved c =
-    let v = c.loop-i.invariant in
-    record {
-      within = omega arith;
-      as_n = v.as_n;
-      left = v.left ∙ within_turn c.args.b.now c.args.p c.args.n c.loop-i.i c.args.most (omega arith) (omega arith) (omega arith) (omega arith);
-    }
+pub returns : goal.returns
+returns c =
+    let b = c.args.b.now in
+    let p = c.args.p in
+    let few = λ (o : ℕ). leb o c.args.most in
+    all_from_yields_List few _ _ c.all.result c.all.ensures.ran (YieldsList-from_slice _ c.iter.ensures.rest) (λ x r q k. search (rules, tests))
+    ∙ ap (λ n. list_all few (slice_range b p (p + n))) c.from.ensures
+    ∙ used few p c.args.n b c.requires.1
