@@ -43,20 +43,12 @@ slot_of hold k = unless_zero (slot_in hold k).state (slot_record k (slot_in hold
 unfoldable pub input_of : List ℕ → ℕ → List ℕ
 input_of hold k = unless_zero (input_in hold k).number (input_record k (input_in hold k))
 
-unfoldable pub record_of : List ℕ → List ℕ → List ℕ → ℕ → ℕ → List ℕ
-record_of tree counts hold kind k =
-    cond (eqb kind 33) (node_of tree counts k) (cond (eqb kind 34) (branch_of counts hold k) (cond (eqb kind 35) (slot_of hold k) (input_of hold k)))
-
 -- ---- all of them
-
--- n of a kind, from `first` on
-unfoldable pub records_of : List ℕ → List ℕ → List ℕ → ℕ → ℕ → ℕ → List (List ℕ)
-records_of tree counts hold kind first n = map (record_of tree counts hold kind) (range n first)
 
 -- the root, then each kind in its order
 unfoldable pub records_in : List ℕ → List ℕ → List ℕ → List (List ℕ)
 records_in tree counts hold =
     (32 ∷ get_or tree 0 0 ∷ [])
-    ∷ (records_of tree counts hold 33 1 last_unit
-    ++ (records_of tree counts hold 34 1 last_unit
-    ++ (records_of tree counts hold 35 0 slot_count ++ records_of tree counts hold 36 0 compactor_count)))
+    ∷ (map (node_of tree counts) (range last_unit 1)
+    ++ (map (branch_of counts hold) (range last_unit 1)
+    ++ (map (slot_of hold) (range slot_count 0) ++ map (input_of hold) (range compactor_count 0))))

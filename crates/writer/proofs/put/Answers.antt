@@ -1,12 +1,12 @@
-use Rattle.std.proofs.Common.{arith, refl}
-use Rattle.writer.proofs.Loops.{put_fits, put_not}
+use Rattle.std.proofs.Common.{arith}
+use Rattle.writer.proofs.Loops.{put_copied, put_not}
 use Rattle.writer.proofs.put.Goals as goal
 
-pub returns-then-most-n : goal.returns-then-most-n
-returns-then-most-n c = put_not c.args.out.now c.args.at c.args.bytes.now (omega arith)
+pub returns-in-Some : goal.returns-in-Some
+returns-in-Some c = put_copied _ _ _ _ _ (omega arith) (c.in-Some.ensures.1) c.copy_from_slice.ensures.after
 
-pub returns-then-most-n-2 : goal.returns-then-most-n-2
-returns-then-most-n-2 c = put_not c.args.out.now c.args.at c.args.bytes.now (omega arith)
+pub returns-in_default : goal.returns-in_default
+returns-in_default c = put_not c.args.out.now c.args.at c.args.bytes.now (omega arith)
 
-pub returns : goal.returns
-returns c = put_fits c.args.out.now c.args.at c.args.bytes.now _ _ (omega arith) c.pour.ensures refl
+pub returns-in_default-2 : goal.returns-in_default-2
+returns-in_default-2 c = put_not c.args.out.now c.args.at c.args.bytes.now (omega arith)
