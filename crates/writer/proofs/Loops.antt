@@ -1,31 +1,27 @@
--- Putting one record, the loop over the numbers of a kind, and one kind after another. Assumes nothing.
-use Rattle.std.specs.Prelude.{Bool, true, false, cond, ◌≡◌, refl, List, [], ◌∷◌, ◌++◌, map, ℕ, zero, suc, ◌+◌, ◌-◌, ◌≤◌, ◌<◌, leb, length, get_or, set, replicate, Option, Some, None, Ok}
-use Rattle.std.proofs.Common.{ap, sym, ◌∙◌, add-zero, append-nil, arith, rules, w16, eq-eqb, ne_eqb, le-leb, le-ltb}
+-- Putting one record, the loop over the records of a kind, the numbers that they come from, and one kind after another. Assumes nothing.
+use Rattle.std.specs.Prelude.{Bool, true, false, cond, ◌≡◌, refl, List, [], ◌∷◌, ◌++◌, map, ℕ, zero, suc, ◌+◌, ◌-◌, ◌≤◌, ◌<◌, leb, length, get_or, set, Option, Some, None, Ok}
+use Rattle.std.proofs.Common.{ap, sym, subst, ◌∙◌, add-zero, add-one, arith, eq-eqb, ne_eqb, le-leb, le-ltb}
 use Rattle.std.proofs.lemmas.Bool.{lt-leb}
 use Rattle.std.proofs.Math.Seq.{paste, paste-zero, paste-suc}
 use Rattle.std.proofs.lemmas.Slice.{put_mid-paste}
-use Rattle.std.specs.Int.{to_le_bytes}
-use Rattle.std.specs.List.{FoldsTo}
-use Rattle.std.specs.Option.{option_map, unwrap_or}
+use Rattle.std.specs.Iterator.{AlwaysYields}
+use Rattle.std.specs.List.{filter_map, cons_option, range_with_len}
 use Rattle.std.specs.Range.{range_inclusive_len, range_inclusive_left, range_inclusive_start, range_inclusive_end, range_inclusive_exhausted, range_inclusive_steps}
+use Rattle.std.specs.declared.ops.Range.{Range}
 use Rattle.std.specs.declared.ops.RangeInclusive.{RangeInclusive}
+use Rattle.std.proofs.iter.Yields.{listed, nat_range_steps}
+use Rattle.std.proofs.lemmas.Iterator.{YieldsList, YieldsList-from_range}
+use Rattle.std.proofs.lemmas.Iterator.Consumers.{YieldsList-from_filter_map}
+use Rattle.std.specs.Fn.{Called}
+use Rattle.std.specs.Iterator.Adapters.{filter_map_source, filter_map_callee, filter_map_steps}
+use Rattle.std.specs.declared.iter.FilterMap.{FilterMap}
 use borrow.Rule.Slice.PartMut.{put_mid}
-use Rattle.units.specs.Limits.{last_unit, room, slot_count, compactor_count, writer_wants}
+use denote.Param.Members.{Mut}
+use Rattle.units.specs.Limits.{last_unit, slot_count, compactor_count, writer_wants}
 use Rattle.rules.specs.Tables.{range}
-use Rattle.rules.specs.Images.{low_first}
-use Rattle.records.specs.Rows.{eight, poured, poured_to, eight_pad}
-use Rattle.writer.specs.Records.{unless_zero, node_of, branch_of, slot_of, input_of, records_in}
-use Rattle.writer.specs.Written.{Place, put_in, wrote, numbers_of, PutsRecord, length_of, write_in}
-
--- ---- eight places of an array are all of it
-
-pub eight_all : (l : List ℕ) → length l ≡ room → l ≡ eight l
-eight_all l e =
-    let none : room - length l ≡ 0 = omega arith in
-    sym (eight_pad l (omega arith) ∙ ap (λ (k : ℕ). l ++ replicate k 0) none ∙ append-nil l)
-
-pub low_high : (n : ℕ) → n < 65536 → to_le_bytes w16 n ≡ low_first n
-low_high n h = search rules
+use Rattle.records.specs.Rows.{poured, poured_to}
+use Rattle.writer.specs.Records.{unless_zero, some_record, node_of, branch_of, slot_of, input_of, records_in}
+use Rattle.writer.specs.Written.{Place, put_in, wrote, length_of, write_in}
 
 -- ---- pouring is pasting
 
@@ -57,6 +53,9 @@ pub put_not : (l : List ℕ) (at : ℕ) (r : List ℕ) → length l < at + lengt
 unfolding put_in
 put_not l at r h = rw (lt-leb (at + length r) (length l) h)
 
+-- what `put` rests on
+pub ruleset placed = (put_copied, put_not)
+
 -- no record
 pub put_none : (o : Place) → o ≡ put_in o []
 unfolding put_in poured poured_to
@@ -66,60 +65,91 @@ put_none o = rw add-zero (go (leb o.1 (length o.0)))
     go true = refl
     go false = refl
 
-module _ (n : ℕ) (r : List ℕ) where
-  pub unless_none : n ≡ 0 → [] ≡ unless_zero n r
-  unless_none e = rw (eq-eqb n 0 e)
+pub some_none : (n : ℕ) (r : List ℕ) → n ≡ 0 → None ≡ some_record (unless_zero n r)
+some_none n r e = rw (eq-eqb n 0 e)
 
-  pub unless_some : (n ≡ 0 → ⊥) → r ≡ unless_zero n r
-  unless_some d = rw (ne_eqb n 0 d)
+pub some_some : (n b : ℕ) (bs : List ℕ) → (n ≡ 0 → ⊥) → Some (b ∷ bs) ≡ some_record (unless_zero n (b ∷ bs))
+some_some n b bs d = rw (ne_eqb n 0 d)
+
+-- what the record of a number rests on, where there is one and where there is none
+pub ruleset given = (some_none, some_some)
 
 -- ---- the loop
 
+module _ {S A : Type 0} (steps : S → Option A → S → Type 0) (bytes_of : A → List ℕ) (s₀ : S) (o₀ : Place) where
+  -- the records that are left lead from here to where all of them lead from the start
+  abbrev pub LeadsOn : S → Place → Type 0
+  LeadsOn s o = (all : List (List ℕ)) → AlwaysYields steps bytes_of s₀ all → (left : List (List ℕ)) × AlwaysYields steps bytes_of s left × (wrote o left ≡ wrote o₀ all)
+
+  pub put_turn : (s : S) (o : Place) (x : A) (t : S) (o' : Place) → LeadsOn s o → steps s (Some x) t → o' ≡ put_in o (bytes_of x) → LeadsOn t o'
+  put_turn s o x t o' p step e all h = go (p all h).0 (p all h).1 (p all h).2
+    where
+      go : (left : List (List ℕ)) → AlwaysYields steps bytes_of s left → wrote o left ≡ wrote o₀ all → (rest : List (List ℕ)) × AlwaysYields steps bytes_of t rest × (wrote o' rest ≡ wrote o₀ all)
+      go [] y w = absurd (y x t step)
+      go (r ∷ rs) y w = (rs, (y.1 x t step).1, rw (e, (y.1 x t step).0) w)
+
+  pub put_end : (s : S) (o : Place) (t : S) → LeadsOn s o → steps s None t → (all : List (List ℕ)) → AlwaysYields steps bytes_of s₀ all → o ≡ wrote o₀ all
+  put_end s o t p step all h = go (p all h).0 (p all h).1 (p all h).2
+    where
+      go : (left : List (List ℕ)) → AlwaysYields steps bytes_of s left → wrote o left ≡ wrote o₀ all → o ≡ wrote o₀ all
+      go [] y w = w
+      go (r ∷ rs) y w = absurd (y.0 t step)
+
+-- ---- the numbers of a range
+
 abbrev gap : ℕ → ℕ → ℕ
 gap a b = b - a
+
+abbrev inclusive_steps : RangeInclusive ℕ → Option ℕ → RangeInclusive ℕ → Type 0
+inclusive_steps = range_inclusive_steps gap (λ a b. b ≡ a + 1)
+
+abbrev numbers : RangeInclusive ℕ → List ℕ
+numbers s = range (range_inclusive_left gap s) (range_inclusive_start s)
 
 tail : (a b c : ℕ) (spent : Bool) → (spent ≡ false → c ≡ a + 1) → range (range_inclusive_len gap c b spent) (suc a) ≡ range (range_inclusive_len gap c b spent) c
 tail a b c true h = refl
 tail a b c false h = let e : suc a ≡ c = omega (arith, h refl) in ap (range (range_inclusive_len gap c b false)) e
 
-pub numbers_next : (s t : RangeInclusive ℕ) (k : ℕ) → range_inclusive_steps gap (λ a b. b ≡ a + 1) s (Some k) t → numbers_of s ≡ k ∷ numbers_of t
-numbers_next s t k e =
+numbers_next : (s : RangeInclusive ℕ) (k : ℕ) (t : RangeInclusive ℕ) → inclusive_steps s (Some k) t → numbers s ≡ k ∷ numbers t
+numbers_next s k t e =
     let n : range_inclusive_left gap s ≡ suc (range_inclusive_left gap t) = omega (arith, e.1.1) in
     let a = range_inclusive_start s in
     ap (λ (m : ℕ). range m a) n
     ∙ ap (λ (x : ℕ). x ∷ range (range_inclusive_left gap t) (suc a)) (sym e.1.0)
     ∙ ap (λ (l : List ℕ). k ∷ l) (tail a (range_inclusive_end t) (range_inclusive_start t) (range_inclusive_exhausted t) e.1.2)
 
-pub numbers_end : (s t : RangeInclusive ℕ) → range_inclusive_steps gap (λ a b. b ≡ a + 1) s None t → numbers_of s ≡ []
-numbers_end s t e = ap (λ (m : ℕ). range m (range_inclusive_start s)) e.1.0
+numbers_end : (s t : RangeInclusive ℕ) → inclusive_steps s None t → length (numbers s) ≡ 0
+numbers_end s t e = ap (λ (m : ℕ). length (range m (range_inclusive_start s))) e.1.0
 
-numbers_made : (s : RangeInclusive ℕ) (a b : ℕ) → range_inclusive_start s ≡ a → range_inclusive_end s ≡ b → range_inclusive_exhausted s ≡ false
-    → numbers_of s ≡ range (range_inclusive_len gap a b false) a
-numbers_made s a b p q x = rw (p, q, x) refl
+pub inclusive_gives : (s r : RangeInclusive ℕ) (a b : ℕ) → s ≡ r → range_inclusive_start r ≡ a → range_inclusive_end r ≡ b → range_inclusive_exhausted r ≡ false
+    → YieldsList inclusive_steps (λ x. x) s (range (range_inclusive_len gap a b false) a)
+inclusive_gives s r a b w p q x =
+    let e : numbers s ≡ range (range_inclusive_len gap a b false) a = rw (w, p, q, x) refl in
+    record { runs = subst (AlwaysYields inclusive_steps (λ x. x) s) e (listed inclusive_steps (λ x. x) numbers numbers_end numbers_next s) }
 
--- what the numbers left lead to, all of them lead to
-module _ {R : Type 0} (bytes_of : R → List ℕ) (gives : ℕ → Option R → Type 0) where
-  abbrev Puts : Place → List ℕ → Place → Type 0
-  Puts = FoldsTo (PutsRecord bytes_of gives)
+-- the library's list of a range is the rules'
+range_same : (n a : ℕ) → range_with_len a n ≡ range n a
+range_same zero a = refl
+range_same (suc n) a = ap (λ (l : List ℕ). a ∷ l) (rw add-one (range_same n (suc a)))
 
-  pub each_turn : (s t : RangeInclusive ℕ) (k : ℕ) (r : Option R) (o o' last : Place) → range_inclusive_steps gap (λ a b. b ≡ a + 1) s (Some k) t
-      → gives k r → o' ≡ put_in o (unwrap_or (option_map bytes_of r) []) → Puts o' (numbers_of t) last → Puts o (numbers_of s) last
-  each_turn s t k r o o' last e g p h = rw (numbers_next s t k e) (o', (r, g, p), h)
+pub range_gives : (s : Range ℕ) (a b : ℕ) → s ≡ record { start = a; end = b } → YieldsList nat_range_steps (λ x. x) s (range (b - a) a)
+range_gives s a b e = subst (YieldsList nat_range_steps (λ x. x) s) (range_same (b - a) a) (YieldsList-from_range a b (b - a) e refl)
 
-  pub each_end : (s t : RangeInclusive ℕ) (o : Place) → range_inclusive_steps gap (λ a b. b ≡ a + 1) s None t → Puts o (numbers_of s) o
-  each_end s t o e = rw (numbers_end s t e) refl
+-- ---- the records of these numbers
 
-  -- where the records are those of a function of the number
-  puts_wrote : (f : ℕ → List ℕ) → ((k : ℕ) (r : Option R) → gives k r → unwrap_or (option_map bytes_of r) [] ≡ f k)
-      → (ks : List ℕ) (o last : Place) → Puts o ks last → last ≡ wrote o (map f ks)
-  puts_wrote f h [] o last p = sym p
-  puts_wrote f h (k ∷ ks) o last p =
-      puts_wrote f h ks p.0 last p.2 ∙ ap (λ (x : Place). wrote x (map f ks)) (p.1.2 ∙ ap (put_in o) (h k p.1.0 p.1.1))
+none_skipped : (f : ℕ → List ℕ) (ks : List ℕ) (o : Place) → wrote o (filter_map (λ k. some_record (f k)) ks) ≡ wrote o (map f ks)
+none_skipped f [] o = refl
+none_skipped f (k ∷ ks) o = go (f k) (filter_map (λ k. some_record (f k)) ks) (λ q. none_skipped f ks q)
+  where
+    go : (r : List ℕ) (rs : List (List ℕ)) → ((q : Place) → wrote q rs ≡ wrote q (map f ks)) → wrote o (cons_option (some_record r) rs) ≡ wrote (put_in o r) (map f ks)
+    go [] rs h = h o ∙ ap (λ (q : Place). wrote q (map f ks)) (put_none o)
+    go (b ∷ bs) rs h = h (put_in o (b ∷ bs))
 
-  pub each_wrote : (f : ℕ → List ℕ) → ((k : ℕ) (r : Option R) → gives k r → unwrap_or (option_map bytes_of r) [] ≡ f k)
-      → (a b : ℕ) (s : RangeInclusive ℕ) → range_inclusive_start s ≡ a → range_inclusive_end s ≡ b → range_inclusive_exhausted s ≡ false
-      → (o last : Place) → Puts o (numbers_of s) last → last ≡ wrote o (map f (range (range_inclusive_len gap a b false) a))
-  each_wrote f h a b s p q x o last w = puts_wrote f h _ o last (rw (numbers_made s a b p q x) at w)
+pub records_wrote : {S F : Type 0} {steps : S → Option ℕ → S → Type 0} {s : FilterMap S F} {callee : F} {ks : List ℕ} (g : Mut F (ℕ × Unit {0}) (Option (List ℕ))) (f : ℕ → List ℕ)
+    → YieldsList steps (λ x. x) (filter_map_source s) ks → filter_map_callee s ≡ callee
+    → ((x : ℕ) (r : Option (List ℕ)) (q : F) → Called g callee (x, tt) r q → (q ≡ callee) × (r ≡ some_record (f x)))
+    → (o last : Place) → ((all : List (List ℕ)) → AlwaysYields (filter_map_steps steps g) (λ y. y) s all → last ≡ wrote o all) → last ≡ wrote o (map f ks)
+records_wrote g f y e h o last w = w _ (YieldsList-from_filter_map g (λ k. some_record (f k)) y e h).runs ∙ none_skipped f _ o
 
 -- ---- one kind after another
 

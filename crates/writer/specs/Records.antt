@@ -1,6 +1,6 @@
 -- The records of an image as code makes them of the lent arrays, and when there is none: then the record is the empty list.
 -- Assumes nothing.
-use Rattle.std.specs.Prelude.{cond, List, [], ◌∷◌, ◌++◌, map, ℕ, eqb, get_or}
+use Rattle.std.specs.Prelude.{cond, List, [], ◌∷◌, ◌++◌, map, ℕ, eqb, get_or, Option, Some, None}
 use Rattle.units.specs.Limits.{last_unit, slot_count, compactor_count}
 use Rattle.rules.specs.Tables.{range}
 use Rattle.rules.specs.Images.{low_first}
@@ -28,6 +28,11 @@ input_record k x = 36 ∷ k ∷ input_row x
 
 abbrev pub unless_zero : ℕ → List ℕ → List ℕ
 unless_zero n bytes = cond (eqb n 0) [] bytes
+
+-- the empty list is none
+abbrev pub some_record : List ℕ → Option (List ℕ)
+some_record [] = None
+some_record (b ∷ bs) = Some (b ∷ bs)
 
 -- a node by its count
 unfoldable pub node_of : List ℕ → List ℕ → ℕ → List ℕ

@@ -1,12 +1,8 @@
 -- Records put one after another into an output, each where it fits: the output with the place behind what was put. Assumes nothing.
-use Rattle.std.specs.Prelude.{◌≡◌, cond, List, [], ◌∷◌, ℕ, ◌+◌, ◌-◌, leb, ltb, length, Option, Result, Ok, Err}
-use Rattle.std.specs.declared.ops.RangeInclusive.{RangeInclusive}
-use Rattle.std.specs.Option.{option_map, unwrap_or}
-use Rattle.std.specs.Range.{range_inclusive_left, range_inclusive_start}
+use Rattle.std.specs.Prelude.{cond, List, [], ◌∷◌, ℕ, ◌+◌, leb, ltb, length, Result, Ok, Err}
 use Rattle.units.specs.Limits.{writer_wants}
 use Rattle.units.specs.declared.Refusal.{Refusal}
 use Rattle.units.specs.declared.Refusal.TheVariants.{ShortOutput}
-use Rattle.rules.specs.Tables.{range}
 use Rattle.records.specs.Rows.{poured}
 use Rattle.writer.specs.Records.{records_in}
 
@@ -20,14 +16,6 @@ put_in o bytes = cond {A = Place} (leb (o.1 + length bytes) (length o.0)) (poure
 abbrev pub wrote : Place → List (List ℕ) → Place
 wrote o [] = o
 wrote o (r ∷ rs) = wrote (put_in o r) rs
-
--- the numbers that a range has left
-abbrev pub numbers_of : RangeInclusive ℕ → List ℕ
-numbers_of r = range (range_inclusive_left (λ a b. b - a) r) (range_inclusive_start r)
-
--- for the number k a record is got, or none, and put
-abbrev pub PutsRecord : {R : Type 0} → (R → List ℕ) → (ℕ → Option R → Type 0) → Place → ℕ → Place → Type 0
-PutsRecord {R} bytes_of gives o k o' = (r : Option R) × gives k r × (o' ≡ put_in o (unwrap_or (option_map bytes_of r) []))
 
 abbrev pub length_of : Place → List ℕ × Result ℕ Refusal
 length_of o = (o.0, Ok o.1)

@@ -2,15 +2,13 @@
 // that are not right write nothing out of bounds; of a right state every record fits.
 #![tactic(auto)]
 
-ghost use Rattle.std.specs.Prelude.{◌≡◌, []};
-ghost use Rattle.std.specs.List.{FoldsTo};
-ghost use Rattle.std.specs.Option.{unwrap_or};
-ghost use Rattle.writer.specs.Records.{node_record, branch_record, slot_record, input_record, node_of, branch_of, slot_of, input_of};
-ghost use Rattle.writer.specs.Written.{put_in, numbers_of, PutsRecord, write_in};
+ghost use Rattle.std.specs.Prelude.{◌≡◌, ℕ, List};
+ghost use Rattle.std.specs.Iterator.{AlwaysYields, IsFinite};
+ghost use Rattle.writer.specs.Records.{node_record, branch_record, slot_record, input_record, node_of, branch_of, slot_of, input_of, some_record};
+ghost use Rattle.writer.specs.Written.{put_in, wrote, write_in};
 
 use counting::Node;
 use std::convert::AsSlice;
-use std::ops::RangeInclusive;
 use tables::{Branch, Input, Slot};
 use units::{BranchRoot, CompactorSlot, NodeUnit, Refusal, UnfinishedSlot};
 
@@ -29,6 +27,7 @@ const INPUT: u8 = 36;
 const WANTED: usize = 8192;
 
 // The bytes at `at` of out, where they fit; the place behind them.
+#[tactic(auto, using(crate::proofs::Loops::placed))]
 fn put(out: &mut [u8], at: usize, bytes: &[u8]) -> usize
     ensures { (out.new, result) ≡ put_in (out.old, at) bytes.now }
 {
@@ -43,6 +42,7 @@ fn put(out: &mut [u8], at: usize, bytes: &[u8]) -> usize
 
 // ---- one record
 
+#[tactic(auto, using(crate::proofs::Filling::filled))]
 fn node_record(u: NodeUnit, n: Node, ways: u16) -> [u8; 30]
     ensures { result ≡ node_record u.0 n ways }
 {
@@ -69,6 +69,7 @@ fn branch_record(x: Branch, places: u16) -> [u8; 12]
     bytes
 }
 
+#[tactic(auto, using(crate::proofs::Filling::filled))]
 fn slot_record(k: UnfinishedSlot, x: Slot) -> [u8; 12]
     ensures { result ≡ slot_record k.0 x }
 {
@@ -81,6 +82,7 @@ fn slot_record(k: UnfinishedSlot, x: Slot) -> [u8; 12]
     bytes
 }
 
+#[tactic(auto, using(crate::proofs::Filling::filled))]
 fn input_record(k: CompactorSlot, x: Input) -> [u8; 11]
     ensures { result ≡ input_record k.0 x }
 {
@@ -94,9 +96,9 @@ fn input_record(k: CompactorSlot, x: Input) -> [u8; 11]
 
 // ---- the record of a number, where there is one
 
-#[tactic(auto, using(crate::proofs::Loops::unless_none, crate::proofs::Loops::unless_some), unfolding(crate::specs::Records::node_of))]
+#[tactic(auto, using(crate::proofs::Loops::given), unfolding(crate::specs::Records::node_of))]
 fn node_of(tree: &[u8; 6656], counts: &[u16; 512], u: NodeUnit) -> Option<[u8; 30]>
-    ensures { unwrap_or result [] ≡ node_of tree.now counts.now u.0 }
+    ensures { result ≡ some_record (node_of tree.now counts.now u.0) }
 {
     let ways = counting::ways_of(counts, u);
     if ways == 0 {
@@ -106,9 +108,9 @@ fn node_of(tree: &[u8; 6656], counts: &[u16; 512], u: NodeUnit) -> Option<[u8; 3
 }
 
 // A branch that only an input holds has the count 0, and a record.
-#[tactic(auto, using(crate::proofs::Loops::unless_none, crate::proofs::Loops::unless_some), unfolding(crate::specs::Records::branch_of))]
+#[tactic(auto, using(crate::proofs::Loops::given), unfolding(crate::specs::Records::branch_of))]
 fn branch_of(counts: &[u16; 512], hold: &[u8; 2380], b: BranchRoot) -> Option<[u8; 12]>
-    ensures { unwrap_or result [] ≡ branch_of counts.now hold.now b.0 }
+    ensures { result ≡ some_record (branch_of counts.now hold.now b.0) }
 {
     let branch = tables::read_branch(hold, b);
     let places = counting::places_of(counts, b);
@@ -118,9 +120,9 @@ fn branch_of(counts: &[u16; 512], hold: &[u8; 2380], b: BranchRoot) -> Option<[u
     Some(branch_record(branch, places))
 }
 
-#[tactic(auto, using(crate::proofs::Loops::unless_none, crate::proofs::Loops::unless_some), unfolding(crate::specs::Records::slot_of))]
+#[tactic(auto, using(crate::proofs::Loops::given), unfolding(crate::specs::Records::slot_of))]
 fn slot_of(hold: &[u8; 2380], k: UnfinishedSlot) -> Option<[u8; 12]>
-    ensures { unwrap_or result [] ≡ slot_of hold.now k.0 }
+    ensures { result ≡ some_record (slot_of hold.now k.0) }
 {
     let slot = tables::read_slot(hold, k);
     if slot.state == 0 {
@@ -129,9 +131,9 @@ fn slot_of(hold: &[u8; 2380], k: UnfinishedSlot) -> Option<[u8; 12]>
     Some(slot_record(k, slot))
 }
 
-#[tactic(auto, using(crate::proofs::Loops::unless_none, crate::proofs::Loops::unless_some), unfolding(crate::specs::Records::input_of))]
+#[tactic(auto, using(crate::proofs::Loops::given), unfolding(crate::specs::Records::input_of))]
 fn input_of(hold: &[u8; 2380], k: CompactorSlot) -> Option<[u8; 11]>
-    ensures { unwrap_or result [] ≡ input_of hold.now k.0 }
+    ensures { result ≡ some_record (input_of hold.now k.0) }
 {
     let input = tables::read_input(hold, k);
     if input.number == 0 {
@@ -142,21 +144,19 @@ fn input_of(hold: &[u8; 2380], k: CompactorSlot) -> Option<[u8; 11]>
 
 // ---- the records of a kind
 
-// The records of these numbers, in their order; the place behind the last.
-fn put_each<R: AsSlice<u8> + Copy, F: Fn(u8) -> Option<R>>(
-    numbers: RangeInclusive<u8>,
-    record_of: F,
+// The records in their order; the place behind the last.
+fn put_each<R: AsSlice<u8> + Copy, I: Iterator<Item = R> + Drop>(
+    records: I,
     out: &mut [u8],
     at: usize,
 ) -> usize
-    requires { F.IsAlwaysCallable record_of }
-    ensures { FoldsTo (PutsRecord R.items (F.post record_of)) (out.old, at) (numbers_of numbers) (out.new, result) }
+    requires can { I.can_next records }
+    requires finite { IsFinite (I.remaining records) }
+    ensures { (all : List (List ℕ)) → AlwaysYields I.next_gives R.items records all → (out.new, result) ≡ wrote (out.old, at) all }
 {
     let mut next = at;
-    for k in numbers {
-        if let Some(bytes) = record_of(k) {
-            next = put(out, next, bytes.as_slice());
-        }
+    for bytes in records {
+        next = put(out, next, bytes.as_slice());
     }
     next
 }
@@ -173,31 +173,13 @@ pub fn write(
     if out.len() < WANTED {
         return Err(Refusal::ShortOutput);
     }
-    let root = counting::root(tree);
-    let roots = put(out, 0, &[ROOT, root.0]);
-    let nodes = put_each(
-        1..=NodeUnit::LAST,
-        |u| node_of(tree, counts, NodeUnit(u)),
-        out,
-        roots,
-    );
-    let branches = put_each(
-        1..=BranchRoot::LAST,
-        |b| branch_of(counts, hold, BranchRoot(b)),
-        out,
-        nodes,
-    );
-    let slots = put_each(
-        0..=UnfinishedSlot::COUNT - 1,
-        |k| slot_of(hold, UnfinishedSlot(k)),
-        out,
-        branches,
-    );
-    let inputs = put_each(
-        0..=CompactorSlot::COUNT - 1,
-        |k| input_of(hold, CompactorSlot(k)),
-        out,
-        slots,
-    );
-    Ok(inputs)
+    let nodes = (1..=NodeUnit::LAST).filter_map(|u| node_of(tree, counts, NodeUnit(u)));
+    let branches = (1..=BranchRoot::LAST).filter_map(|b| branch_of(counts, hold, BranchRoot(b)));
+    let slots = (0..UnfinishedSlot::COUNT).filter_map(|k| slot_of(hold, UnfinishedSlot(k)));
+    let inputs = (0..CompactorSlot::COUNT).filter_map(|k| input_of(hold, CompactorSlot(k)));
+    let end = put(out, 0, &[ROOT, counting::root(tree).0]);
+    let end = put_each(nodes, out, end);
+    let end = put_each(branches, out, end);
+    let end = put_each(slots, out, end);
+    Ok(put_each(inputs, out, end))
 }

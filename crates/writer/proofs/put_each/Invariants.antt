@@ -1,9 +1,8 @@
--- Whatever the numbers that are left lead to, all the numbers lead to from the start.
-use Rattle.std.specs.List.{FoldsTo}
-use Rattle.writer.specs.Written.{Place, numbers_of, PutsRecord}
+-- The records that are left lead from here to where all of them lead from the start.
+use Rattle.writer.proofs.Loops.{LeadsOn}
 use Rattle.writer.proofs.put_each.Given as goal
 
-abbrev pub invariant-loop-k : goal.invariant-loop-k
-invariant-loop-k g l =
-    (last : Place) → FoldsTo (PutsRecord g.R.AsSlice.items (goal.F-post g l.record_of)) (l.out, l.next) (numbers_of l.k-iterator) last
-    → FoldsTo (PutsRecord g.R.AsSlice.items (goal.F-post g l.record_of)) (l.fn.out, l.at) (numbers_of l.fn.numbers) last
+abbrev pub invariant-loop-bytes : goal.invariant-loop-bytes
+invariant-loop-bytes g l =
+    (goal.iterator-loop-bytes g).can_next l.bytes-iterator × (goal.iterator-loop-bytes g).is_finite l.bytes-iterator
+    × LeadsOn g.I.Iterator.next_gives g.R.AsSlice.items l.fn.records (l.fn.out, l.fn.at) l.bytes-iterator (l.out, l.next)
