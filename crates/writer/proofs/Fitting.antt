@@ -7,10 +7,10 @@ use native.Mathlib.Omega.{arith}
 use lib.ListN.{length, take, drop, length-append}
 use lib.Seq.{paste, take-length}
 use Rattle.std.proofs.lemmas.List.Edits.{paste-paste}
-use Rattle.records.specs.Rows.{poured, poured_to, poured_length}
+use Rattle.records.specs.Rows.{poured, poured_to, poured_length, poured_paste}
 use Rattle.images.proofs.Listing.{joint}
 use Rattle.writer.specs.Written.{Place, wrote}
-use Rattle.writer.proofs.Loops.{poured_paste, put_fits}
+use Rattle.writer.proofs.Loops.{put_fits}
 
 -- ---- one behind another
 

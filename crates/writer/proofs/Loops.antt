@@ -1,8 +1,7 @@
 -- Putting one record, the loop over the records of a kind, the numbers that they come from, and one kind after another. Assumes nothing.
-use Rattle.std.specs.Prelude.{Bool, true, false, cond, ◌≡◌, refl, List, [], ◌∷◌, ◌++◌, map, ℕ, zero, suc, ◌+◌, ◌-◌, ◌≤◌, ◌<◌, leb, length, get_or, set, Option, Some, None, Ok}
+use Rattle.std.specs.Prelude.{Bool, true, false, cond, ◌≡◌, refl, List, [], ◌∷◌, ◌++◌, map, ℕ, zero, suc, ◌+◌, ◌-◌, ◌≤◌, ◌<◌, leb, length, get_or, Option, Some, None, Ok}
 use Rattle.std.proofs.Common.{ap, sym, subst, ◌∙◌, add-zero, add-one, arith, eq-eqb, ne_eqb, le-leb, le-ltb}
 use Rattle.std.proofs.lemmas.Bool.{lt-leb}
-use Rattle.std.proofs.Math.Seq.{paste, paste-zero, paste-suc}
 use Rattle.std.proofs.lemmas.Slice.{put_mid-paste}
 use Rattle.std.specs.Iterator.{AlwaysYields}
 use Rattle.std.specs.List.{filter_map, cons_option, range_with_len}
@@ -19,22 +18,9 @@ use borrow.Rule.Slice.PartMut.{put_mid}
 use denote.Param.Members.{Mut}
 use Rattle.units.specs.Limits.{last_unit, slot_count, compactor_count, writer_wants}
 use Rattle.rules.specs.Tables.{range}
-use Rattle.records.specs.Rows.{poured, poured_to}
+use Rattle.records.specs.Rows.{poured, poured_to, poured_paste}
 use Rattle.writer.specs.Records.{unless_zero, some_record, node_of, branch_of, slot_of, input_of, records_in}
 use Rattle.writer.specs.Written.{Place, put_in, wrote, length_of, write_in}
-
--- ---- pouring is pasting
-
-to_paste : (l : List ℕ) (at : ℕ) (r : List ℕ) (n : ℕ) → at + n ≤ length l → n ≤ length r → poured_to l at r n ≡ paste l at r n
-unfolding poured_to
-to_paste l at r zero h q = paste-zero l at r
-to_paste l at r (suc n) h q =
-    ap (λ (x : List ℕ). set x (at + n) (get_or r n 0)) (to_paste l at r n (omega arith) (omega arith))
-    ∙ paste-suc l at r n 0 (omega arith) (omega arith)
-
-pub poured_paste : (l : List ℕ) (at : ℕ) (r : List ℕ) → at + length r ≤ length l → poured l at r ≡ paste l at r (length r)
-unfolding poured
-poured_paste l at r h = to_paste l at r (length r) h (omega arith)
 
 -- ---- one record
 

@@ -125,7 +125,7 @@ fn slot_of(hold: &[u8; 2380], k: UnfinishedSlot) -> Option<[u8; 12]>
     ensures { result ≡ some_record (slot_of hold.now k.0) }
 {
     let slot = tables::read_slot(hold, k);
-    if slot.state == 0 {
+    if slot.state == Slot::EMPTY {
         return None;
     }
     Some(slot_record(k, slot))

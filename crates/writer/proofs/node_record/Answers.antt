@@ -1,6 +1,5 @@
 use Rattle.std.proofs.Common.{◌≡◌, arith, rules, ◌∙◌}
-use Rattle.records.specs.Rows.{eight}
-use Rattle.writer.proofs.Filling.{eight_all}
+use Rattle.records.specs.Rows.{eight, eight_all}
 use Rattle.writer.proofs.node_record.Goals as goal
 
 pub slice_bounds-bytes-end-4 : goal.slice_bounds-bytes-end-4
