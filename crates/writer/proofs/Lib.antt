@@ -1,3 +1,4 @@
+pub mod Filling
 pub mod Loops
 pub mod Fitting
 pub mod Theorems

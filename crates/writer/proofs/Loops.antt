@@ -1,19 +1,26 @@
--- Putting one record, the loop over the records of a kind, and one kind after another. Assumes nothing.
-use mathlib.Core.Bool.{Bool, true, false, cond}
-use mathlib.Core.Path.{◌≡◌, refl, ap, ◌∙◌}
-use mathlib.Core.List.{List, [], ◌∷◌, ◌++◌, map}
-use Prim.Native.Nat.{ℕ, suc, ◌+◌, ◌-◌, ◌≤◌, ◌<◌}
-use native.Mathlib.Omega.{arith}
-use native.Mathlib.Nat.{add-zero}
-use lib.Dec.{leb}
-use lib.ListN.{length, get_or}
-use borrow.Author.Tests.{le-leb, lt-leb, le-ltb, eq-eqb, ne_eqb}
+-- Putting one record, the loop over the records of a kind, the numbers that they come from, and one kind after another. Assumes nothing.
+use Rattle.std.specs.Prelude.{Bool, true, false, cond, ◌≡◌, refl, List, [], ◌∷◌, ◌++◌, map, ℕ, zero, suc, ◌+◌, ◌-◌, ◌≤◌, ◌<◌, leb, length, get_or, Option, Some, None, Ok}
+use Rattle.std.proofs.Common.{ap, sym, subst, ◌∙◌, add-zero, add-one, arith, eq-eqb, ne_eqb, le-leb, le-ltb}
+use Rattle.std.proofs.lemmas.Bool.{lt-leb}
+use Rattle.std.proofs.lemmas.Slice.{put_mid-paste}
+use Rattle.std.specs.Iterator.{AlwaysYields}
+use Rattle.std.specs.List.{filter_map, cons_option, range_with_len}
+use Rattle.std.specs.Range.{range_inclusive_len, range_inclusive_left, range_inclusive_start, range_inclusive_end, range_inclusive_exhausted, range_inclusive_steps}
+use Rattle.std.specs.declared.ops.Range.{Range}
+use Rattle.std.specs.declared.ops.RangeInclusive.{RangeInclusive}
+use Rattle.std.proofs.iter.Yields.{listed, nat_range_steps}
+use Rattle.std.proofs.lemmas.Iterator.{YieldsList, YieldsList-from_range}
+use Rattle.std.proofs.lemmas.Iterator.Consumers.{YieldsList-from_filter_map}
+use Rattle.std.specs.Fn.{Called}
+use Rattle.std.specs.Iterator.Adapters.{filter_map_source, filter_map_callee, filter_map_steps}
+use Rattle.std.specs.declared.iter.FilterMap.{FilterMap}
+use borrow.Rule.Slice.PartMut.{put_mid}
+use denote.Param.Members.{Mut}
 use Rattle.units.specs.Limits.{last_unit, slot_count, compactor_count, writer_wants}
 use Rattle.rules.specs.Tables.{range}
-use Rattle.records.specs.Rows.{poured, poured_to, poured_length}
-use Rattle.writer.specs.Records.{unless_zero, record_of, records_of, records_in}
+use Rattle.records.specs.Rows.{poured, poured_to, poured_paste}
+use Rattle.writer.specs.Records.{unless_zero, some_record, node_of, branch_of, slot_of, input_of, records_in}
 use Rattle.writer.specs.Written.{Place, put_in, wrote, length_of, write_in}
-use Rattle.writer.specs.declared.Written.TheVariants.{Length}
 
 -- ---- one record
 
@@ -21,17 +28,19 @@ pub put_fits : (l : List ℕ) (at : ℕ) (r l' : List ℕ) (n : ℕ) → at + le
 unfolding put_in
 put_fits l at r l' n h el en = rw (le-leb (at + length r) (length l) h, el, en)
 
+-- copied into the part from `at` to `end`
+pub put_copied : (l : List ℕ) (at : ℕ) (r part : List ℕ) (end : ℕ) → end ≤ length l → end ≡ at + length r → part ≡ r → (put_mid at (end - at) l part, end) ≡ put_in (l, at) r
+put_copied l at r part end h e p =
+    put_fits l at r (put_mid at (end - at) l part) end (omega arith)
+    (put_mid-paste at (end - at) l part r (length r) p (omega arith) refl ∙ sym (poured_paste l at r (omega arith)))
+    e
+
 pub put_not : (l : List ℕ) (at : ℕ) (r : List ℕ) → length l < at + length r → (l, at) ≡ put_in (l, at) r
 unfolding put_in
 put_not l at r h = rw (lt-leb (at + length r) (length l) h)
 
-pub put_length : (o : Place) (r : List ℕ) → length (put_in o r).0 ≡ length o.0
-unfolding put_in
-put_length o r = go (leb (o.1 + length r) (length o.0))
-  where
-    go : (b : Bool) → length (cond {A = Place} b (poured o.0 o.1 r, o.1 + length r) o).0 ≡ length o.0
-    go true = poured_length o.0 o.1 r
-    go false = refl
+-- what `put` rests on
+pub ruleset placed = (put_copied, put_not)
 
 -- no record
 pub put_none : (o : Place) → o ≡ put_in o []
@@ -42,54 +51,91 @@ put_none o = rw add-zero (go (leb o.1 (length o.0)))
     go true = refl
     go false = refl
 
-module _ (o : Place) (n : ℕ) (r : List ℕ) where
-  pub unless_none : n ≡ 0 → o ≡ put_in o (unless_zero n r)
-  unless_none e = rw (eq-eqb n 0 e) (put_none o)
+pub some_none : (n : ℕ) (r : List ℕ) → n ≡ 0 → None ≡ some_record (unless_zero n r)
+some_none n r e = rw (eq-eqb n 0 e)
 
-  pub unless_some : (z : Place) → (n ≡ 0 → ⊥) → z ≡ put_in o r → z ≡ put_in o (unless_zero n r)
-  unless_some z d e = rw (ne_eqb n 0 d) e
+pub some_some : (n b : ℕ) (bs : List ℕ) → (n ≡ 0 → ⊥) → Some (b ∷ bs) ≡ some_record (unless_zero n (b ∷ bs))
+some_some n b bs d = rw (ne_eqb n 0 d)
+
+-- what the record of a number rests on, where there is one and where there is none
+pub ruleset given = (some_none, some_some)
 
 -- ---- the loop
 
--- k of n records are put
-abbrev rest : (ℕ → List ℕ) → ℕ → ℕ → ℕ → List (List ℕ)
-rest f first n k = map f (range (n - k) (first + k))
+module _ {S A : Type 0} (steps : S → Option A → S → Type 0) (bytes_of : A → List ℕ) (s₀ : S) (o₀ : Place) where
+  -- the records that are left lead from here to where all of them lead from the start
+  abbrev pub LeadsOn : S → Place → Type 0
+  LeadsOn s o = (all : List (List ℕ)) → AlwaysYields steps bytes_of s₀ all → (left : List (List ℕ)) × AlwaysYields steps bytes_of s left × (wrote o left ≡ wrote o₀ all)
 
-rest_turn : (f : ℕ → List ℕ) (first n k : ℕ) (o o' z : Place) → k < n → o' ≡ put_in o (f (first + k)) → wrote o (rest f first n k) ≡ z → wrote o' (rest f first n (k + 1)) ≡ z
-rest_turn f first n k o o' z p e h =
-    let a : n - k ≡ suc (n - (k + 1)) = omega arith in
-    let b : first + (k + 1) ≡ suc (first + k) = omega arith in
-    rw (e, b) (rw a at h)
+  pub put_turn : (s : S) (o : Place) (x : A) (t : S) (o' : Place) → LeadsOn s o → steps s (Some x) t → o' ≡ put_in o (bytes_of x) → LeadsOn t o'
+  put_turn s o x t o' p step e all h = go (p all h).0 (p all h).1 (p all h).2
+    where
+      go : (left : List (List ℕ)) → AlwaysYields steps bytes_of s left → wrote o left ≡ wrote o₀ all → (rest : List (List ℕ)) × AlwaysYields steps bytes_of t rest × (wrote o' rest ≡ wrote o₀ all)
+      go [] y w = absurd (y x t step)
+      go (r ∷ rs) y w = (rs, (y.1 x t step).1, rw (e, (y.1 x t step).0) w)
 
-rest_end : (f : ℕ → List ℕ) (first n k : ℕ) (o z : Place) → n ≤ k → wrote o (rest f first n k) ≡ z → o ≡ z
-rest_end f first n k o z p h =
-    let a : n - k ≡ 0 = omega arith in
-    rw a at h
+  pub put_end : (s : S) (o : Place) (t : S) → LeadsOn s o → steps s None t → (all : List (List ℕ)) → AlwaysYields steps bytes_of s₀ all → o ≡ wrote o₀ all
+  put_end s o t p step all h = go (p all h).0 (p all h).1 (p all h).2
+    where
+      go : (left : List (List ℕ)) → AlwaysYields steps bytes_of s left → wrote o left ≡ wrote o₀ all → o ≡ wrote o₀ all
+      go [] y w = w
+      go (r ∷ rs) y w = absurd (y.0 t step)
 
-pub record KindLoop (tree counts hold : List ℕ) (kind first n : ℕ) (out₀ : List ℕ) (at : ℕ) (out : List ℕ) (next k : ℕ) : Type 0 where
-  pub bytes : first + n ≤ 256
-  pub long : length out ≡ length out₀
-  pub left : wrote (out, next) (rest (record_of tree counts hold kind) first n k) ≡ wrote (out₀, at) (records_of tree counts hold kind first n)
+-- ---- the numbers of a range
 
-module _ (tree counts hold : List ℕ) (kind first n : ℕ) (out₀ : List ℕ) (at : ℕ) where
-  pub kind_start : first + n ≤ 256 → KindLoop tree counts hold kind first n out₀ at out₀ at 0
-  unfolding records_of
-  kind_start h =
-      let a : n - 0 ≡ n = omega arith in
-      let b : first + 0 ≡ first = omega arith in
-      record { bytes = h; long = refl; left = rw (a, b) refl }
+abbrev gap : ℕ → ℕ → ℕ
+gap a b = b - a
 
-  pub kind_turn : (out : List ℕ) (next k : ℕ) (out' : List ℕ) (next' : ℕ) → KindLoop tree counts hold kind first n out₀ at out next k → k < n
-      → (out', next') ≡ put_in (out, next) (record_of tree counts hold kind (first + k)) → KindLoop tree counts hold kind first n out₀ at out' next' (k + 1)
-  kind_turn out next k out' next' c p e =
-      record {
-        bytes = c.bytes;
-        long = ap (λ (o : Place). length o.0) e ∙ put_length (out, next) (record_of tree counts hold kind (first + k)) ∙ c.long;
-        left = rest_turn (record_of tree counts hold kind) first n k (out, next) (out', next') (wrote (out₀, at) (records_of tree counts hold kind first n)) p e c.left;
-      }
+abbrev inclusive_steps : RangeInclusive ℕ → Option ℕ → RangeInclusive ℕ → Type 0
+inclusive_steps = range_inclusive_steps gap (λ a b. b ≡ a + 1)
 
-  pub kind_end : (out : List ℕ) (next k : ℕ) → KindLoop tree counts hold kind first n out₀ at out next k → n ≤ k → (out, next) ≡ wrote (out₀, at) (records_of tree counts hold kind first n)
-  kind_end out next k c p = rest_end (record_of tree counts hold kind) first n k (out, next) (wrote (out₀, at) (records_of tree counts hold kind first n)) p c.left
+abbrev numbers : RangeInclusive ℕ → List ℕ
+numbers s = range (range_inclusive_left gap s) (range_inclusive_start s)
+
+tail : (a b c : ℕ) (spent : Bool) → (spent ≡ false → c ≡ a + 1) → range (range_inclusive_len gap c b spent) (suc a) ≡ range (range_inclusive_len gap c b spent) c
+tail a b c true h = refl
+tail a b c false h = let e : suc a ≡ c = omega (arith, h refl) in ap (range (range_inclusive_len gap c b false)) e
+
+numbers_next : (s : RangeInclusive ℕ) (k : ℕ) (t : RangeInclusive ℕ) → inclusive_steps s (Some k) t → numbers s ≡ k ∷ numbers t
+numbers_next s k t e =
+    let n : range_inclusive_left gap s ≡ suc (range_inclusive_left gap t) = omega (arith, e.1.1) in
+    let a = range_inclusive_start s in
+    ap (λ (m : ℕ). range m a) n
+    ∙ ap (λ (x : ℕ). x ∷ range (range_inclusive_left gap t) (suc a)) (sym e.1.0)
+    ∙ ap (λ (l : List ℕ). k ∷ l) (tail a (range_inclusive_end t) (range_inclusive_start t) (range_inclusive_exhausted t) e.1.2)
+
+numbers_end : (s t : RangeInclusive ℕ) → inclusive_steps s None t → length (numbers s) ≡ 0
+numbers_end s t e = ap (λ (m : ℕ). length (range m (range_inclusive_start s))) e.1.0
+
+pub inclusive_gives : (s r : RangeInclusive ℕ) (a b : ℕ) → s ≡ r → range_inclusive_start r ≡ a → range_inclusive_end r ≡ b → range_inclusive_exhausted r ≡ false
+    → YieldsList inclusive_steps (λ x. x) s (range (range_inclusive_len gap a b false) a)
+inclusive_gives s r a b w p q x =
+    let e : numbers s ≡ range (range_inclusive_len gap a b false) a = rw (w, p, q, x) refl in
+    record { runs = subst (AlwaysYields inclusive_steps (λ x. x) s) e (listed inclusive_steps (λ x. x) numbers numbers_end numbers_next s) }
+
+-- the library's list of a range is the rules'
+range_same : (n a : ℕ) → range_with_len a n ≡ range n a
+range_same zero a = refl
+range_same (suc n) a = ap (λ (l : List ℕ). a ∷ l) (rw add-one (range_same n (suc a)))
+
+pub range_gives : (s : Range ℕ) (a b : ℕ) → s ≡ record { start = a; end = b } → YieldsList nat_range_steps (λ x. x) s (range (b - a) a)
+range_gives s a b e = subst (YieldsList nat_range_steps (λ x. x) s) (range_same (b - a) a) (YieldsList-from_range a b (b - a) e refl)
+
+-- ---- the records of these numbers
+
+none_skipped : (f : ℕ → List ℕ) (ks : List ℕ) (o : Place) → wrote o (filter_map (λ k. some_record (f k)) ks) ≡ wrote o (map f ks)
+none_skipped f [] o = refl
+none_skipped f (k ∷ ks) o = go (f k) (filter_map (λ k. some_record (f k)) ks) (λ q. none_skipped f ks q)
+  where
+    go : (r : List ℕ) (rs : List (List ℕ)) → ((q : Place) → wrote q rs ≡ wrote q (map f ks)) → wrote o (cons_option (some_record r) rs) ≡ wrote (put_in o r) (map f ks)
+    go [] rs h = h o ∙ ap (λ (q : Place). wrote q (map f ks)) (put_none o)
+    go (b ∷ bs) rs h = h (put_in o (b ∷ bs))
+
+pub records_wrote : {S F : Type 0} {steps : S → Option ℕ → S → Type 0} {s : FilterMap S F} {callee : F} {ks : List ℕ} (g : Mut F (ℕ × Unit {0}) (Option (List ℕ))) (f : ℕ → List ℕ)
+    → YieldsList steps (λ x. x) (filter_map_source s) ks → filter_map_callee s ≡ callee
+    → ((x : ℕ) (r : Option (List ℕ)) (q : F) → Called g callee (x, tt) r q → (q ≡ callee) × (r ≡ some_record (f x)))
+    → (o last : Place) → ((all : List (List ℕ)) → AlwaysYields (filter_map_steps steps g) (λ y. y) s all → last ≡ wrote o all) → last ≡ wrote o (map f ks)
+records_wrote g f y e h o last w = w _ (YieldsList-from_filter_map g (λ k. some_record (f k)) y e h).runs ∙ none_skipped f _ o
 
 -- ---- one kind after another
 
@@ -102,11 +148,11 @@ wrote_then (r ∷ rs) ss o = wrote_then rs ss (put_in o r)
 module _ (tree counts hold out : List ℕ) (h : writer_wants ≤ length out) where
   pub write_all : (r : ℕ) (l₁ l₂ l₃ l₄ l₅ : List ℕ) (n₁ n₂ n₃ n₄ n₅ : ℕ) → r ≡ get_or tree 0 0
       → (l₁, n₁) ≡ put_in (out, 0) (32 ∷ r ∷ [])
-      → (l₂, n₂) ≡ wrote (l₁, n₁) (records_of tree counts hold 33 1 last_unit)
-      → (l₃, n₃) ≡ wrote (l₂, n₂) (records_of tree counts hold 34 1 last_unit)
-      → (l₄, n₄) ≡ wrote (l₃, n₃) (records_of tree counts hold 35 0 slot_count)
-      → (l₅, n₅) ≡ wrote (l₄, n₄) (records_of tree counts hold 36 0 compactor_count)
-      → (l₅, Length n₅) ≡ write_in tree counts hold out
+      → (l₂, n₂) ≡ wrote (l₁, n₁) (map (node_of tree counts) (range last_unit 1))
+      → (l₃, n₃) ≡ wrote (l₂, n₂) (map (branch_of counts hold) (range last_unit 1))
+      → (l₄, n₄) ≡ wrote (l₃, n₃) (map (slot_of hold) (range slot_count 0))
+      → (l₅, n₅) ≡ wrote (l₄, n₄) (map (input_of hold) (range compactor_count 0))
+      → (l₅, Ok n₅) ≡ write_in tree counts hold out
   unfolding write_in records_in
   write_all r l₁ l₂ l₃ l₄ l₅ n₁ n₂ n₃ n₄ n₅ er e₁ e₂ e₃ e₄ e₅ =
       rw (le-ltb (length out) writer_wants h)
@@ -117,16 +163,16 @@ module _ (tree counts hold out : List ℕ) (h : writer_wants ≤ length out) whe
       ∙ wrote_then N (B ++ (S ++ I)) start))
     where
       N : List (List ℕ)
-      N = records_of tree counts hold 33 1 last_unit
+      N = map (node_of tree counts) (range last_unit 1)
 
       B : List (List ℕ)
-      B = records_of tree counts hold 34 1 last_unit
+      B = map (branch_of counts hold) (range last_unit 1)
 
       S : List (List ℕ)
-      S = records_of tree counts hold 35 0 slot_count
+      S = map (slot_of hold) (range slot_count 0)
 
       I : List (List ℕ)
-      I = records_of tree counts hold 36 0 compactor_count
+      I = map (input_of hold) (range compactor_count 0)
 
       to : List (List ℕ) → Place → Place
       to rs o = wrote o rs

@@ -4,12 +4,14 @@ use mathlib.Core.Bool.{Bool}
 use mathlib.Core.Path.{◌≡◌, refl, ap, ap₂, sym, ◌∙◌}
 use mathlib.Core.List.{List, [], ◌∷◌, ◌++◌, map, append_assoc}
 use mathlib.Core.Option.{Option, none, some}
+use Rattle.std.specs.Prelude.{Ok, Err}
 use Prim.Native.Nat.{ℕ, zero, suc, ◌+◌, ◌≤◌, ◌<◌}
 use native.Mathlib.Omega.{arith}
 use lib.Dec.{T, leb}
 use lib.ListN.{length, get_or, drop}
 use borrow.Author.Tests.{lt-ltb, le-ltb, ltb-true, ltb-false, eq-eqb, ne_eqb, leb-true}
 use Rattle.units.specs.Limits.{last_unit, room, slot_count, compactor_count, writer_wants}
+use Rattle.units.specs.declared.Refusal.TheVariants.{ShortOutput}
 use Rattle.ways.specs.Ways.{flat}
 use Rattle.ways.proofs.Tests.{T→eq, and_l, and_r}
 use Rattle.rules.specs.Tables.{all, range, is_some, or_else}
@@ -25,9 +27,8 @@ use Rattle.path.proofs.Trees.{node_of_lem}
 use Rattle.tables.specs.Hold.{coded_branch, coded_slot, coded_input}
 use Rattle.tables.proofs.Kept.{branch_read_lem, slot_read_lem, input_read_lem}
 use Rattle.state.specs.Stands.{Arrays, Stands}
-use Rattle.writer.specs.Records.{unless_zero, node_record, branch_record, slot_record, input_record, node_of, branch_of, slot_of, input_of, record_of, records_of, records_in}
+use Rattle.writer.specs.Records.{unless_zero, node_record, branch_record, slot_record, input_record, node_of, branch_of, slot_of, input_of, records_in}
 use Rattle.writer.specs.Written.{length_of, write_in}
-use Rattle.writer.specs.declared.Written.TheVariants.{Length, Short}
 use Rattle.writer.proofs.Fitting.{poured_front, wrote_fit}
 
 -- ---- lists of records
@@ -97,14 +98,20 @@ all_at f z (x ∷ xs) (suc j) t q = all_at f z xs j (and_r (f x) (all f xs) t) (
 -- ---- the arrays of a right state
 
 module _ (s : Store) (r : Right s) (a : Arrays) (st : Stands s a) where
-  abbrev made : ℕ → ℕ → List ℕ
-  made kind k = record_of a.tree a.counts a.hold kind k
+  abbrev nodes : List (List ℕ)
+  nodes = map (node_of a.tree a.counts) (range last_unit 1)
 
-  abbrev kind : ℕ → ℕ → ℕ → List (List ℕ)
-  kind k first n = records_of a.tree a.counts a.hold k first n
+  abbrev branches : List (List ℕ)
+  branches = map (branch_of a.counts a.hold) (range last_unit 1)
 
-  nodes_are : (u : ℕ) → 1 ≤ u → u ≤ last_unit → made 33 u ≡ node_image (ways s) u (s.nodes u)
-  unfolding record_of node_of
+  abbrev slots : List (List ℕ)
+  slots = map (slot_of a.hold) (range slot_count 0)
+
+  abbrev inputs : List (List ℕ)
+  inputs = map (input_of a.hold) (range compactor_count 0)
+
+  nodes_are : (u : ℕ) → 1 ≤ u → u ≤ last_unit → node_of a.tree a.counts u ≡ node_image (ways s) u (s.nodes u)
+  unfolding node_of
   nodes_are u p q =
       ap (λ (c : ℕ). unless_zero c (node_record u (node_in a.tree u) c)) (st.counts.way u q)
       ∙ ap (λ (n : Rattle.counting.specs.declared.Node.Node). unless_zero (ways s u) (node_record u n (ways s u))) (node_of_lem st.tree u p q)
@@ -119,8 +126,8 @@ module _ (s : Store) (r : Right s) (a : Arrays) (st : Stands s a) where
           let w = r.sound.node u n e in
           rw (ne_eqb (ways s u) 0 (λ x. omega arith)) (node_image_lem (ways s) u n w.few_buffers w.few_children (omega (arith, w.paired, w.few_children)))
 
-  branches_are : (b : ℕ) → b ≤ last_unit → made 34 b ≡ branch_image (places s) b (s.branches b)
-  unfolding record_of branch_of
+  branches_are : (b : ℕ) → b ≤ last_unit → branch_of a.counts a.hold b ≡ branch_image (places s) b (s.branches b)
+  unfolding branch_of
   branches_are b q = rw (branch_read_lem st.hold b q, st.counts.place b q) (go (s.branches b) refl)
     where
       go : (o : Option (List ℕ)) → s.branches b ≡ o → unless_zero (length (or_else [] o)) (branch_record (coded_branch (or_else [] o)) (places s b)) ≡ branch_image (places s) b o
@@ -129,44 +136,42 @@ module _ (s : Store) (r : Right s) (a : Arrays) (st : Stands s a) where
           let w = r.sound.branch b us e in
           rw (ne_eqb (length us) 0 (λ x. omega (arith, w.least))) (branch_image_lem (places s) b us w.most)
 
-  slots_are : (k : ℕ) → k < slot_count → made 35 k ≡ slot_image k (get_or s.slots k empty)
-  unfolding record_of slot_of
+  slots_are : (k : ℕ) → k < slot_count → slot_of a.hold k ≡ slot_image k (get_or s.slots k empty)
+  unfolding slot_of
   slots_are k q =
       let n : length s.slots ≡ slot_count = r.sound.slot_number in
       rw (slot_read_lem st.hold k q) (slot_image_lem k (get_or s.slots k empty) (all_at slot_ok empty s.slots k r.sound.slot (omega arith)))
 
-  inputs_are : (k : ℕ) → k < compactor_count → made 36 k ≡ input_image k (get_or s.inputs k [])
-  unfolding record_of input_of
+  inputs_are : (k : ℕ) → k < compactor_count → input_of a.hold k ≡ input_image k (get_or s.inputs k [])
+  unfolding input_of
   inputs_are k q =
       let n : length s.inputs ≡ compactor_count = r.sound.input_number in
       rw (input_read_lem st.hold k q) (input_image_lem k (get_or s.inputs k []) (all_at (λ l. leb (length l) room) [] s.inputs k r.sound.input (omega arith)))
 
   -- ---- the records of each kind, and all of them
 
-  all_nodes : joint (kind 33 1 last_unit) ≡ flat (λ u. node_image (ways s) u (s.nodes u)) units
-  unfolding records_of units
-  all_nodes = joint_flat (made 33) (λ u. node_image (ways s) u (s.nodes u)) last_unit 1 (λ u p q. nodes_are u p (omega arith))
+  all_nodes : joint nodes ≡ flat (λ u. node_image (ways s) u (s.nodes u)) units
+  unfolding units
+  all_nodes = joint_flat (node_of a.tree a.counts) (λ u. node_image (ways s) u (s.nodes u)) last_unit 1 (λ u p q. nodes_are u p (omega arith))
 
-  all_branches : joint (kind 34 1 last_unit) ≡ flat (λ b. branch_image (places s) b (s.branches b)) units
-  unfolding records_of units
-  all_branches = joint_flat (made 34) (λ b. branch_image (places s) b (s.branches b)) last_unit 1 (λ b p q. branches_are b (omega arith))
+  all_branches : joint branches ≡ flat (λ b. branch_image (places s) b (s.branches b)) units
+  unfolding units
+  all_branches = joint_flat (branch_of a.counts a.hold) (λ b. branch_image (places s) b (s.branches b)) last_unit 1 (λ b p q. branches_are b (omega arith))
 
-  all_slots : joint (kind 35 0 slot_count) ≡ slot_images 0 s.slots
-  unfolding records_of
+  all_slots : joint slots ≡ slot_images 0 s.slots
   all_slots =
       let n : length s.slots ≡ slot_count = r.sound.slot_number in
       let z : (j : ℕ) → 0 + j ≡ j = λ j. omega arith in
-      ap (λ (m : ℕ). joint (map (made 35) (range m 0))) (sym n)
-      ∙ joint_images slot_image empty (made 35) 0 s.slots (λ j q. rw (z j) (slots_are j (omega arith)))
+      ap (λ (m : ℕ). joint (map (slot_of a.hold) (range m 0))) (sym n)
+      ∙ joint_images slot_image empty (slot_of a.hold) 0 s.slots (λ j q. rw (z j) (slots_are j (omega arith)))
       ∙ slots_image 0 s.slots
 
-  all_inputs : joint (kind 36 0 compactor_count) ≡ input_images 0 s.inputs
-  unfolding records_of
+  all_inputs : joint inputs ≡ input_images 0 s.inputs
   all_inputs =
       let n : length s.inputs ≡ compactor_count = r.sound.input_number in
       let z : (j : ℕ) → 0 + j ≡ j = λ j. omega arith in
-      ap (λ (m : ℕ). joint (map (made 36) (range m 0))) (sym n)
-      ∙ joint_images input_image [] (made 36) 0 s.inputs (λ j q. rw (z j) (inputs_are j (omega arith)))
+      ap (λ (m : ℕ). joint (map (input_of a.hold) (range m 0))) (sym n)
+      ∙ joint_images input_image [] (input_of a.hold) 0 s.inputs (λ j q. rw (z j) (inputs_are j (omega arith)))
       ∙ inputs_image 0 s.inputs
 
   records_are : joint (records_in a.tree a.counts a.hold) ≡ image s
@@ -174,16 +179,16 @@ module _ (s : Store) (r : Right s) (a : Arrays) (st : Stands s a) where
   records_are =
       ap₂ (λ (x : ℕ) (l : List ℕ). 32 ∷ x ∷ l)
       (root_read a.tree s.root st.tree.root_row)
-      (split (kind 33 1 last_unit) (kind 34 1 last_unit ++ (kind 35 0 slot_count ++ kind 36 0 compactor_count)) all_nodes
-      (split (kind 34 1 last_unit) (kind 35 0 slot_count ++ kind 36 0 compactor_count) all_branches
-      (split (kind 35 0 slot_count) (kind 36 0 compactor_count) all_slots all_inputs)))
+      (split nodes (branches ++ (slots ++ inputs)) all_nodes
+      (split branches (slots ++ inputs) all_branches
+      (split slots inputs all_slots all_inputs)))
     where
       split : (rs ss : List (List ℕ)) {x y : List ℕ} → joint rs ≡ x → joint ss ≡ y → joint (rs ++ ss) ≡ x ++ y
       split rs ss e f = joint_append rs ss ∙ ap₂ (λ (a b : List ℕ). a ++ b) e f
 
   -- THEOREM: the image at the front, its length as the answer, the later bytes as they were
   pub write_is : (out : List ℕ) → writer_wants ≤ length out
-      → write_in a.tree a.counts a.hold out ≡ (image s ++ drop (length (image s)) out, Length (length (image s)))
+      → write_in a.tree a.counts a.hold out ≡ (image s ++ drop (length (image s)) out, Ok (length (image s)))
   unfolding write_in
   write_is out h =
       let e : joint (records_in a.tree a.counts a.hold) ≡ image s = records_are in
@@ -197,6 +202,6 @@ module _ (s : Store) (r : Right s) (a : Arrays) (st : Stands s a) where
       ))
 
 -- THEOREM: refusal 20
-pub write_short : (tree counts hold out : List ℕ) → length out < writer_wants → write_in tree counts hold out ≡ (out, Short)
+pub write_short : (tree counts hold out : List ℕ) → length out < writer_wants → write_in tree counts hold out ≡ (out, Err ShortOutput)
 unfolding write_in
 write_short tree counts hold out h = rw (lt-ltb (length out) writer_wants h)

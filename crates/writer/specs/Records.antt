@@ -1,6 +1,6 @@
 -- The records of an image as code makes them of the lent arrays, and when there is none: then the record is the empty list.
 -- Assumes nothing.
-use Rattle.std.specs.Prelude.{cond, List, [], ◌∷◌, ◌++◌, map, ℕ, eqb, get_or}
+use Rattle.std.specs.Prelude.{cond, List, [], ◌∷◌, ◌++◌, map, ℕ, eqb, get_or, Option, Some, None}
 use Rattle.units.specs.Limits.{last_unit, slot_count, compactor_count}
 use Rattle.rules.specs.Tables.{range}
 use Rattle.rules.specs.Images.{low_first}
@@ -29,6 +29,11 @@ input_record k x = 36 ∷ k ∷ input_row x
 abbrev pub unless_zero : ℕ → List ℕ → List ℕ
 unless_zero n bytes = cond (eqb n 0) [] bytes
 
+-- the empty list is none
+abbrev pub some_record : List ℕ → Option (List ℕ)
+some_record [] = None
+some_record (b ∷ bs) = Some (b ∷ bs)
+
 -- a node by its count
 unfoldable pub node_of : List ℕ → List ℕ → ℕ → List ℕ
 node_of tree counts u = unless_zero (get_or counts u 0) (node_record u (node_in tree u) (get_or counts u 0))
@@ -43,20 +48,12 @@ slot_of hold k = unless_zero (slot_in hold k).state (slot_record k (slot_in hold
 unfoldable pub input_of : List ℕ → ℕ → List ℕ
 input_of hold k = unless_zero (input_in hold k).number (input_record k (input_in hold k))
 
-unfoldable pub record_of : List ℕ → List ℕ → List ℕ → ℕ → ℕ → List ℕ
-record_of tree counts hold kind k =
-    cond (eqb kind 33) (node_of tree counts k) (cond (eqb kind 34) (branch_of counts hold k) (cond (eqb kind 35) (slot_of hold k) (input_of hold k)))
-
 -- ---- all of them
-
--- n of a kind, from `first` on
-unfoldable pub records_of : List ℕ → List ℕ → List ℕ → ℕ → ℕ → ℕ → List (List ℕ)
-records_of tree counts hold kind first n = map (record_of tree counts hold kind) (range n first)
 
 -- the root, then each kind in its order
 unfoldable pub records_in : List ℕ → List ℕ → List ℕ → List (List ℕ)
 records_in tree counts hold =
     (32 ∷ get_or tree 0 0 ∷ [])
-    ∷ (records_of tree counts hold 33 1 last_unit
-    ++ (records_of tree counts hold 34 1 last_unit
-    ++ (records_of tree counts hold 35 0 slot_count ++ records_of tree counts hold 36 0 compactor_count)))
+    ∷ (map (node_of tree counts) (range last_unit 1)
+    ++ (map (branch_of counts hold) (range last_unit 1)
+    ++ (map (slot_of hold) (range slot_count 0) ++ map (input_of hold) (range compactor_count 0))))

@@ -1,10 +1,10 @@
 -- Records put one after another into an output, each where it fits: the output with the place behind what was put. Assumes nothing.
-use Rattle.std.specs.Prelude.{cond, List, [], ◌∷◌, ℕ, ◌+◌, leb, ltb, length}
+use Rattle.std.specs.Prelude.{cond, List, [], ◌∷◌, ℕ, ◌+◌, leb, ltb, length, Result, Ok, Err}
 use Rattle.units.specs.Limits.{writer_wants}
+use Rattle.units.specs.declared.Refusal.{Refusal}
+use Rattle.units.specs.declared.Refusal.TheVariants.{ShortOutput}
 use Rattle.records.specs.Rows.{poured}
 use Rattle.writer.specs.Records.{records_in}
-use Rattle.writer.specs.declared.Written.{Written}
-use Rattle.writer.specs.declared.Written.TheVariants.{Length, Short}
 
 -- an output and a place in it
 abbrev pub Place : Type 0
@@ -17,9 +17,10 @@ abbrev pub wrote : Place → List (List ℕ) → Place
 wrote o [] = o
 wrote o (r ∷ rs) = wrote (put_in o r) rs
 
-abbrev pub length_of : Place → List ℕ × Written
-length_of o = (o.0, Length o.1)
+abbrev pub length_of : Place → List ℕ × Result ℕ Refusal
+length_of o = (o.0, Ok o.1)
 
 -- refusal 20, "the output has under 8,192 bytes": nothing is written
-unfoldable pub write_in : List ℕ → List ℕ → List ℕ → List ℕ → List ℕ × Written
-write_in tree counts hold out = cond {A = List ℕ × Written} (ltb (length out) writer_wants) (out, Short) (length_of (wrote (out, 0) (records_in tree counts hold)))
+unfoldable pub write_in : List ℕ → List ℕ → List ℕ → List ℕ → List ℕ × Result ℕ Refusal
+write_in tree counts hold out =
+    cond {A = List ℕ × Result ℕ Refusal} (ltb (length out) writer_wants) (out, Err ShortOutput) (length_of (wrote (out, 0) (records_in tree counts hold)))

@@ -2,15 +2,17 @@
 // that are not right write nothing out of bounds; of a right state every record fits.
 #![tactic(auto)]
 
-ghost use Rattle.std.specs.Prelude.{◌≤◌, ◌+◌, ◌≡◌};
-ghost use Rattle.writer.specs.Records.{node_record, branch_record, slot_record, input_record, node_of, branch_of, slot_of, input_of, record_of, records_of};
+ghost use Rattle.std.specs.Prelude.{◌≡◌, ℕ, List};
+ghost use Rattle.std.specs.Iterator.{AlwaysYields, IsFinite};
+ghost use Rattle.writer.specs.Records.{node_record, branch_record, slot_record, input_record, node_of, branch_of, slot_of, input_of, some_record};
 ghost use Rattle.writer.specs.Written.{put_in, wrote, write_in};
 
 use counting::Node;
+use std::convert::AsSlice;
 use tables::{Branch, Input, Slot};
-use units::{BranchRoot, CompactorSlot, NodeUnit, UnfinishedSlot};
+use units::{BranchRoot, CompactorSlot, NodeUnit, Refusal, UnfinishedSlot};
 
-// The kinds of record, in their order.
+// The first byte of a record tells its kind.
 const ROOT: u8 = 32;
 
 const NODE: u8 = 33;
@@ -21,260 +23,163 @@ const SLOT: u8 = 35;
 
 const INPUT: u8 = 36;
 
-const FIRST_UNIT: u8 = 1;
-
-const FIRST_SLOT: u8 = 0;
-
 // What the writer wants of its output.
 const WANTED: usize = 8192;
 
-// The length of the image, or refusal 20.
-#[derive(Clone, Copy)]
-pub enum Written {
-    Length(usize),
-    Short,
-}
-
 // The bytes at `at` of out, where they fit; the place behind them.
+#[tactic(auto, using(crate::proofs::Loops::placed))]
 fn put(out: &mut [u8], at: usize, bytes: &[u8]) -> usize
     ensures { (out.new, result) ≡ put_in (out.old, at) bytes.now }
 {
-    let n = bytes.len();
-    let most = out.len();
-    if most < n {
-        return at;
+    match at.checked_add(bytes.len()) {
+        Some(end) if end <= out.len() => {
+            out[at..end].copy_from_slice(bytes);
+            end
+        }
+        _ => at,
     }
-    if most - n < at {
-        return at;
-    }
-    records::pour(out, at, bytes);
-    at + n
 }
 
 // ---- one record
 
-fn node_record(u: u8, n: Node, ways: u16) -> [u8; 30]
-    ensures { result ≡ node_record u n ways }
+#[tactic(auto, using(crate::proofs::Filling::filled))]
+fn node_record(u: NodeUnit, n: Node, ways: u16) -> [u8; 30]
+    ensures { result ≡ node_record u.0 n ways }
 {
-    let b = n.buffers;
-    let c = n.children;
-    let o = n.offsets;
-    [
-        NODE,
-        u,
-        n.buffer_number,
-        b[0],
-        b[1],
-        b[2],
-        b[3],
-        b[4],
-        b[5],
-        b[6],
-        b[7],
-        n.child_number,
-        c[0],
-        c[1],
-        c[2],
-        c[3],
-        c[4],
-        c[5],
-        c[6],
-        c[7],
-        o[0],
-        o[1],
-        o[2],
-        o[3],
-        o[4],
-        o[5],
-        o[6],
-        o[7],
-        (ways % 256) as u8,
-        (ways / 256) as u8,
-    ]
+    let mut bytes = [0; 30];
+    bytes[0] = NODE;
+    bytes[1] = u.0;
+    bytes[2] = n.buffer_number;
+    bytes[3..11].copy_from_slice(&n.buffers);
+    bytes[11] = n.child_number;
+    bytes[12..20].copy_from_slice(&n.children);
+    bytes[20..28].copy_from_slice(&n.offsets);
+    bytes[28..].copy_from_slice(&ways.to_le_bytes());
+    bytes
 }
 
 fn branch_record(x: Branch, places: u16) -> [u8; 12]
     ensures { result ≡ branch_record x places }
 {
-    let us = x.units;
-    [
-        BRANCH,
-        x.number,
-        us[0],
-        us[1],
-        us[2],
-        us[3],
-        us[4],
-        us[5],
-        us[6],
-        us[7],
-        (places % 256) as u8,
-        (places / 256) as u8,
-    ]
+    let mut bytes = [0; 12];
+    bytes[0] = BRANCH;
+    bytes[1] = x.number;
+    bytes[2..10].copy_from_slice(&x.units);
+    bytes[10..].copy_from_slice(&places.to_le_bytes());
+    bytes
 }
 
-fn slot_record(k: u8, x: Slot) -> [u8; 12]
-    ensures { result ≡ slot_record k x }
+#[tactic(auto, using(crate::proofs::Filling::filled))]
+fn slot_record(k: UnfinishedSlot, x: Slot) -> [u8; 12]
+    ensures { result ≡ slot_record k.0 x }
 {
-    let us = x.units;
-    [
-        SLOT, k, x.state, x.number, us[0], us[1], us[2], us[3], us[4], us[5], us[6], us[7],
-    ]
+    let mut bytes = [0; 12];
+    bytes[0] = SLOT;
+    bytes[1] = k.0;
+    bytes[2] = x.state;
+    bytes[3] = x.number;
+    bytes[4..].copy_from_slice(&x.units);
+    bytes
 }
 
-fn input_record(k: u8, x: Input) -> [u8; 11]
-    ensures { result ≡ input_record k x }
+#[tactic(auto, using(crate::proofs::Filling::filled))]
+fn input_record(k: CompactorSlot, x: Input) -> [u8; 11]
+    ensures { result ≡ input_record k.0 x }
 {
-    let bs = x.roots;
-    [
-        INPUT, k, x.number, bs[0], bs[1], bs[2], bs[3], bs[4], bs[5], bs[6], bs[7],
-    ]
+    let mut bytes = [0; 11];
+    bytes[0] = INPUT;
+    bytes[1] = k.0;
+    bytes[2] = x.number;
+    bytes[3..].copy_from_slice(&x.roots);
+    bytes
 }
 
-// ---- the record of a kind and a number, where there is one
+// ---- the record of a number, where there is one
 
-fn put_node(tree: &[u8; 6656], counts: &[u16; 512], u: u8, out: &mut [u8], at: usize) -> usize
-    ensures { (out.new, result) ≡ put_in (out.old, at) (node_of tree.now counts.now u) }
+#[tactic(auto, using(crate::proofs::Loops::given), unfolding(crate::specs::Records::node_of))]
+fn node_of(tree: &[u8; 6656], counts: &[u16; 512], u: NodeUnit) -> Option<[u8; 30]>
+    ensures { result ≡ some_record (node_of tree.now counts.now u.0) }
 {
-    let ways = counting::ways_of(counts, NodeUnit(u));
+    let ways = counting::ways_of(counts, u);
     if ways == 0 {
-        return at;
+        return None;
     }
-    let node = counting::read_node(tree, NodeUnit(u));
-    let bytes = node_record(u, node, ways);
-    put(out, at, &bytes)
+    Some(node_record(u, counting::read_node(tree, u), ways))
 }
 
 // A branch that only an input holds has the count 0, and a record.
-fn put_branch(counts: &[u16; 512], hold: &[u8; 2380], b: u8, out: &mut [u8], at: usize) -> usize
-    ensures { (out.new, result) ≡ put_in (out.old, at) (branch_of counts.now hold.now b) }
+#[tactic(auto, using(crate::proofs::Loops::given), unfolding(crate::specs::Records::branch_of))]
+fn branch_of(counts: &[u16; 512], hold: &[u8; 2380], b: BranchRoot) -> Option<[u8; 12]>
+    ensures { result ≡ some_record (branch_of counts.now hold.now b.0) }
 {
-    let places = counting::places_of(counts, BranchRoot(b));
-    let x = tables::read_branch(hold, BranchRoot(b));
-    let units = x.number;
-    if units == 0 {
-        return at;
+    let branch = tables::read_branch(hold, b);
+    let places = counting::places_of(counts, b);
+    if branch.number == 0 {
+        return None;
     }
-    let bytes = branch_record(x, places);
-    put(out, at, &bytes)
+    Some(branch_record(branch, places))
 }
 
-fn put_slot(hold: &[u8; 2380], k: u8, out: &mut [u8], at: usize) -> usize
-    ensures { (out.new, result) ≡ put_in (out.old, at) (slot_of hold.now k) }
+#[tactic(auto, using(crate::proofs::Loops::given), unfolding(crate::specs::Records::slot_of))]
+fn slot_of(hold: &[u8; 2380], k: UnfinishedSlot) -> Option<[u8; 12]>
+    ensures { result ≡ some_record (slot_of hold.now k.0) }
 {
-    let x = tables::read_slot(hold, UnfinishedSlot(k));
-    let state = x.state;
-    if state == 0 {
-        return at;
+    let slot = tables::read_slot(hold, k);
+    if slot.state == Slot::EMPTY {
+        return None;
     }
-    let bytes = slot_record(k, x);
-    put(out, at, &bytes)
+    Some(slot_record(k, slot))
 }
 
-fn put_input(hold: &[u8; 2380], k: u8, out: &mut [u8], at: usize) -> usize
-    ensures { (out.new, result) ≡ put_in (out.old, at) (input_of hold.now k) }
+#[tactic(auto, using(crate::proofs::Loops::given), unfolding(crate::specs::Records::input_of))]
+fn input_of(hold: &[u8; 2380], k: CompactorSlot) -> Option<[u8; 11]>
+    ensures { result ≡ some_record (input_of hold.now k.0) }
 {
-    let x = tables::read_input(hold, CompactorSlot(k));
-    let roots = x.number;
-    if roots == 0 {
-        return at;
+    let input = tables::read_input(hold, k);
+    if input.number == 0 {
+        return None;
     }
-    let bytes = input_record(k, x);
-    put(out, at, &bytes)
+    Some(input_record(k, input))
 }
 
-fn put_record(
-    tree: &[u8; 6656],
-    counts: &[u16; 512],
-    hold: &[u8; 2380],
-    kind: u8,
-    k: u8,
+// ---- the records of a kind
+
+// The records in their order; the place behind the last.
+fn put_each<R: AsSlice<u8> + Copy, I: Iterator<Item = R> + Drop>(
+    records: I,
     out: &mut [u8],
     at: usize,
 ) -> usize
-    ensures { (out.new, result) ≡ put_in (out.old, at) (record_of tree.now counts.now hold.now kind k) }
-{
-    match kind {
-        NODE => put_node(tree, counts, k, out, at),
-        BRANCH => put_branch(counts, hold, k, out, at),
-        SLOT => put_slot(hold, k, out, at),
-        _ => put_input(hold, k, out, at),
-    }
-}
-
-// ---- the records of a kind: n of them, from the number `first` on
-
-fn write_kind(
-    tree: &[u8; 6656],
-    counts: &[u16; 512],
-    hold: &[u8; 2380],
-    kind: u8,
-    first: u8,
-    n: u8,
-    out: &mut [u8],
-    at: usize,
-) -> usize
-    requires { first + n ≤ 256 }
-    ensures { (out.new, result) ≡ wrote (out.old, at) (records_of tree.now counts.now hold.now kind first n) }
+    requires can { I.can_next records }
+    requires finite { IsFinite (I.remaining records) }
+    ensures { (all : List (List ℕ)) → AlwaysYields I.next_gives R.items records all → (out.new, result) ≡ wrote (out.old, at) all }
 {
     let mut next = at;
-    let mut k: u8 = 0;
-    while k < n {
-        next = put_record(tree, counts, hold, kind, first + k, out, next);
-        k += 1;
+    for bytes in records {
+        next = put(out, next, bytes.as_slice());
     }
     next
 }
 
 // "Images": nothing is written where the output is short; the bytes behind the image stay.
-pub fn write(tree: &[u8; 6656], counts: &[u16; 512], hold: &[u8; 2380], out: &mut [u8]) -> Written
+pub fn write(
+    tree: &[u8; 6656],
+    counts: &[u16; 512],
+    hold: &[u8; 2380],
+    out: &mut [u8],
+) -> Result<usize, Refusal>
     ensures { (out.new, result) ≡ write_in tree.now counts.now hold.now out.old }
 {
     if out.len() < WANTED {
-        return Written::Short;
+        return Err(Refusal::ShortOutput);
     }
-    let root = counting::root(tree);
-    let head = [ROOT, root.0];
-    let roots = put(out, 0, &head);
-    let nodes = write_kind(
-        tree,
-        counts,
-        hold,
-        NODE,
-        FIRST_UNIT,
-        NodeUnit::LAST,
-        out,
-        roots,
-    );
-    let branches = write_kind(
-        tree,
-        counts,
-        hold,
-        BRANCH,
-        FIRST_UNIT,
-        BranchRoot::LAST,
-        out,
-        nodes,
-    );
-    let slots = write_kind(
-        tree,
-        counts,
-        hold,
-        SLOT,
-        FIRST_SLOT,
-        UnfinishedSlot::COUNT,
-        out,
-        branches,
-    );
-    let inputs = write_kind(
-        tree,
-        counts,
-        hold,
-        INPUT,
-        FIRST_SLOT,
-        CompactorSlot::COUNT,
-        out,
-        slots,
-    );
-    Written::Length(inputs)
+    let nodes = (1..=NodeUnit::LAST).filter_map(|u| node_of(tree, counts, NodeUnit(u)));
+    let branches = (1..=BranchRoot::LAST).filter_map(|b| branch_of(counts, hold, BranchRoot(b)));
+    let slots = (0..UnfinishedSlot::COUNT).filter_map(|k| slot_of(hold, UnfinishedSlot(k)));
+    let inputs = (0..CompactorSlot::COUNT).filter_map(|k| input_of(hold, CompactorSlot(k)));
+    let end = put(out, 0, &[ROOT, counting::root(tree).0]);
+    let end = put_each(nodes, out, end);
+    let end = put_each(branches, out, end);
+    let end = put_each(slots, out, end);
+    Ok(put_each(inputs, out, end))
 }
