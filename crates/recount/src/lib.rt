@@ -56,12 +56,8 @@ pub fn walk_node(
     }
     count_node(tree, counts, u)?;
     let n = counting::read_node(tree, u);
-    walk_children(
-        tree,
-        counts,
-        counting::part(&n.children, 0, n.child_number),
-        depth - 1,
-    )
+    let children = counting::part(&n.children, 0, n.child_number);
+    walk_children(tree, counts, children, depth - 1)
 }
 
 // A child that stands there twice is visited twice.

@@ -25,5 +25,5 @@ walk_node-returns-in_err-count_node t c =
 
 pub walk_node-returns : goal.walk_node-returns
 walk_node-returns t c =
-    walk_on c.args.tree.now c.args.depth c.args.u.0 c.read_node-n.result c.part.result.now c.args.counts.now c.count_node.new.counts c.walk_children.new.counts
-    c.walk_children.result c.if-depth-eq0.false c.in_ok-count_node.ensures c.read_node-n.ensures c.part.ensures c.walk_children.ensures
+    walk_on c.args.tree.now c.args.depth c.args.u.0 c.read_node-n.result c.part-children.result.now c.args.counts.now c.count_node.new.counts c.walk_children.new.counts
+    c.walk_children.result c.if-depth-eq0.false c.in_ok-count_node.ensures c.read_node-n.ensures c.part-children.ensures c.walk_children.ensures
