@@ -112,24 +112,6 @@ pub clear_free : (m : List ℕ) (u : ℕ) → held_in m u ≡ false → clear m 
 unfolding held_in clear without_bit
 clear_free m u e = rw e (set-get_or m (u / 64) 0)
 
--- ---- the loop over eight units: what is left to clear, cleared from here, gives what was asked
-
-pub record ReleaseLoop (m us map : List ℕ) (i : ℕ) : Type 0 where
-  pub eight : length us ≡ 8
-  pub upto : i ≤ 8
-  pub left : clears map (drop i us) ≡ clears m us
-
-pub release_turn : {m us map map' : List ℕ} {i : ℕ} → ReleaseLoop m us map i → i < 8 → map' ≡ clear map (get_or us i 0) → ReleaseLoop m us map' (i + 1)
-release_turn {m} {us} {map} {map'} {i} l h e =
-    record {
-      eight = l.eight;
-      upto = omega arith;
-      left = rw (add-one, e) (sym (ap (clears map) (drop-cons us i 0 (omega (arith, l.eight)))) ∙ l.left);
-    }
-
-pub release_end : {m us map : List ℕ} {i : ℕ} → ReleaseLoop m us map i → 8 ≤ i → map ≡ clears m us
-release_end {m} {us} {map} {i} l h = sym (ap (clears map) (drop_of_length-le us {i = i} (omega (arith, l.eight)))) ∙ l.left
-
 -- ---- the map is what it holds
 
 -- bit i of word q
