@@ -153,11 +153,6 @@ gone_le a b = sift_le (λ u. held_in a u && not (held_in b u)) 255 1
 
 -- ---- a list stored
 
-pub inserted_length : (r d : List ℕ) (at : ℕ) → length (inserted d at r) ≡ length d
-unfolding inserted
-inserted_length [] d at = refl
-inserted_length (x ∷ r) d at = inserted_length r (set d at x) (at + 1) ∙ length-set d at x
-
 -- one list after another
 pub inserted_two : (a b d : List ℕ) (at : ℕ) → inserted (inserted d at a) (at + length a) b ≡ inserted d at (a ++ b)
 unfolding inserted
@@ -188,10 +183,6 @@ pub record WordLoop (base : ℕ) (d : List ℕ) (at word : ℕ) (out : List ℕ)
   pub long : length out ≡ length d
   pub same_list : inserted out n (bits_of 64 base w) ≡ inserted d at (bits_of 64 base word)
   pub same_next : n + length (bits_of 64 base w) ≡ at + length (bits_of 64 base word)
-
-pub word_start : {base : ℕ} {d : List ℕ} {at word : ℕ} → base ≤ 192 → at + length (bits_of 64 base word) ≤ length d → word < 2 ^ 64
-    → WordLoop base d at word d at word
-word_start b h s = record { low = b; small = s; room = h; long = refl; same_list = refl; same_next = refl }
 
 pub record WordTurn (base : ℕ) (d : List ℕ) (at word : ℕ) (out : List ℕ) (n w k : ℕ) : Type 0 where
   pub below : k < 64

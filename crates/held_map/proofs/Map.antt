@@ -26,10 +26,6 @@ pub clear_length : (m : List ℕ) (u : ℕ) → length (clear m u) ≡ length m
 unfolding clear
 clear_length m u = length-set m _ _
 
-pub clears_length : (us m : List ℕ) → length (clears m us) ≡ length m
-clears_length [] m = refl
-clears_length (u ∷ us) m = clears_length us (clear m u) ∙ clear_length m u
-
 set_fits : (m : List ℕ) (i w : ℕ) → ((j : ℕ) → get_or m j 0 < 2 ^ 64) → w < 2 ^ 64 → (j : ℕ) → get_or (set m i w) j 0 < 2 ^ 64
 set_fits [] i w h l j = h j
 set_fits (x ∷ xs) zero w h l zero = l
