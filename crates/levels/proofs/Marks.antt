@@ -4,7 +4,7 @@ use mathlib.Core.List.{List, [], ◌++◌}
 use Prim.Native.Nat.{ℕ, ◌+◌, ◌-◌, ◌^◌, ◌≤◌, ◌<◌}
 use native.Mathlib.Omega.{arith}
 use lib.Count.{count_trailing_zeros}
-use lib.ListN.{get_or}
+use lib.ListN.{length, get_or, take, drop, drop_of_length-le}
 use Rattle.ways.specs.Ways.{flat}
 use Rattle.ways.proofs.Frame.{flat_append}
 use Rattle.rules.specs.Tables.{slice}
@@ -16,18 +16,19 @@ use Rattle.held_map.proofs.Lists.{Lowest, lowest, bits_none, four_sift}
 use Rattle.counting.specs.declared.Node.{Node}
 use Rattle.counting.specs.Nodes.{node_in}
 use Rattle.counting.specs.Change.{each}
-use Rattle.counting.specs.Places.{up_to}
 use Rattle.counting.specs.Graph.{children_in, node_children}
-use Rattle.counting.proofs.Each.{run_whole, each_append}
+use Rattle.counting.proofs.Each.{each_append}
 use Rattle.levels.specs.Sets.{marks, below_in}
 
--- ---- the children of one unit
+-- ---- the children of one unit, once none is left
 
-pub children_start : (l : List ℕ) (u : ℕ) (n : Node) (m : List ℕ) (end : ℕ) → n ≡ node_in l u → end ≡ up_to n.child_number
-    → marks m (slice 0 (end - 0) n.children) ≡ marks m (children_in l u)
-children_start l u n m end e q =
-    let c = node_children l u n e in
-    ap (marks m) (run_whole n.children n.child_number end c.0 q ∙ c.1)
+pub children_end : (l : List ℕ) (u : ℕ) (n : Node) (cs m m' : List ℕ) (i : ℕ) → n ≡ node_in l u → cs ≡ slice 0 (n.child_number - 0) n.children
+    → length cs ≤ i → marks m' (drop i cs) ≡ marks m cs → m' ≡ marks m (children_in l u)
+children_end l u n cs m m' i e q h v =
+    let z : n.child_number - 0 ≡ n.child_number = omega arith in
+    let same : cs ≡ children_in l u = q ∙ ap (λ (k : ℕ). take k n.children) z ∙ (node_children l u n e).1 in
+    let none : drop i cs ≡ [] = drop_of_length-le cs {i = i} h in
+    sym (ap (marks m') none) ∙ v ∙ ap (marks m) same
 
 -- ---- those of the units in a word: what is left to mark, marked from here, gives what was asked
 
