@@ -3,13 +3,12 @@ use mathlib.Core.Bool.{Bool, true, false, ◌||◌, ◌&&◌, not}
 use mathlib.Core.Logic.{◌⊎◌, inl, inr}
 use mathlib.Core.Path.{◌≡◌, refl, ap, sym, ◌∙◌}
 use mathlib.Core.List.{List, [], ◌∷◌}
-use Prim.Native.Nat.{ℕ, zero, suc, ◌+◌, ◌*◌, ◌/◌, ◌%◌, ◌^◌, ◌≤◌, ◌<◌}
-use native.Mathlib.Numerals.{add-one}
+use Prim.Native.Nat.{ℕ, zero, suc, ◌+◌, ◌*◌, ◌/◌, ◌%◌, ◌^◌, ◌<◌}
 use native.Mathlib.Omega.{arith}
 use borrow.Author.Tests.{eq-eqb, ne_eqb}
 use lib.Dec.{eqb}
-use lib.ListN.{length, get_or, set, drop, length-set, drop_of_length-le}
-use lib.Seq.{get_or-set_same, get_or-set_other, set-get_or, drop-cons, ext_get_or}
+use lib.ListN.{length, get_or, set, length-set}
+use lib.Seq.{get_or-set_same, get_or-set_other, set-get_or, ext_get_or}
 use Rattle.ways.specs.Ways.{has}
 use Rattle.held_map.specs.Bits.{bit, is_set, with_bit, without_bit}
 use Rattle.held_map.specs.Map.{Words, empty_map, held_in, mark, clear, clears, Bytes}
