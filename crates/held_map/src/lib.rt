@@ -25,20 +25,14 @@ fn with_bit(w: u64, k: u8) -> u64
     requires { k < 64 }
     ensures { result ≡ with_bit w k }
 {
-    if bit_at(w, k) {
-        return w;
-    }
-    w + one_at(k)
+    w | one_at(k)
 }
 
 fn without_bit(w: u64, k: u8) -> u64
     requires { k < 64 }
     ensures { result ≡ without_bit w k }
 {
-    if bit_at(w, k) {
-        return w - one_at(k);
-    }
-    w
+    w & !one_at(k)
 }
 
 pub fn has(map: &[u64; 4], u: u8) -> bool
