@@ -1,7 +1,8 @@
 -- The loops that mark: the children of one unit, of the units in a word, of those in a level. Assumes nothing.
-use mathlib.Core.Path.{◌≡◌, ap, sym, ◌∙◌}
+use native.Mathlib.Numerals.{add-one}
+use mathlib.Core.Path.{◌≡◌, refl, ap, sym, ◌∙◌}
 use mathlib.Core.List.{List, [], ◌++◌}
-use Prim.Native.Nat.{ℕ, ◌+◌, ◌-◌, ◌^◌, ◌≤◌, ◌<◌}
+use Prim.Native.Nat.{ℕ, zero, suc, ◌+◌, ◌-◌, ◌*◌, ◌^◌, ◌≤◌, ◌<◌}
 use native.Mathlib.Omega.{arith}
 use lib.Count.{count_trailing_zeros}
 use lib.ListN.{length, get_or, take, drop, drop_of_length-le}
@@ -65,22 +66,27 @@ module _ {children : ℕ → List ℕ} {base word : ℕ} {below₀ below : List 
 
 -- ---- those of the units in four words
 
-pub four_marks : (tree level m m1 m2 m3 m4 : List ℕ)
-    → m1 ≡ marks m (flat (children_in tree) (bits_of 64 0 (get_or level 0 0))) → m2 ≡ marks m1 (flat (children_in tree) (bits_of 64 64 (get_or level 1 0)))
-    → m3 ≡ marks m2 (flat (children_in tree) (bits_of 64 128 (get_or level 2 0))) → m4 ≡ marks m3 (flat (children_in tree) (bits_of 64 192 (get_or level 3 0)))
-    → m4 ≡ below_in tree level m
+-- `m`, with the children of the units in the first words
+abbrev pub marked : List ℕ → List ℕ → List ℕ → ℕ → List ℕ
+marked tree level m zero = m
+marked tree level m (suc i) = marks (marked tree level m i) (flat (children_in tree) (bits_of 64 (i * 64) (get_or level i 0)))
+
+pub marked_more : (tree level m below below' : List ℕ) (i : ℕ) → below ≡ marked tree level m i
+    → below' ≡ marks below (flat (children_in tree) (bits_of 64 (i * 64) (get_or level i 0))) → below' ≡ marked tree level m (i + 1)
+marked_more tree level m below below' i e f = rw (add-one, f, e) refl
+
+pub marked_four : (tree level m : List ℕ) → marked tree level m 4 ≡ below_in tree level m
 unfolding below_in four_of
-four_marks tree level m m1 m2 m3 m4 e1 e2 e3 e4 =
+marked_four tree level m =
     let f = children_in tree in
     let w0 = bits_of 64 0 (get_or level 0 0) in
     let w1 = bits_of 64 64 (get_or level 1 0) in
     let w2 = bits_of 64 128 (get_or level 2 0) in
     let w3 = bits_of 64 192 (get_or level 3 0) in
-    e4
-    ∙ step f w2 w3 m2 m3 e3
-    ∙ step f w1 (w2 ++ w3) m1 m2 e2
-    ∙ step f w0 (w1 ++ (w2 ++ w3)) m m1 e1
+    step f w2 w3 (marked tree level m 2)
+    ∙ step f w1 (w2 ++ w3) (marked tree level m 1)
+    ∙ step f w0 (w1 ++ (w2 ++ w3)) m
     ∙ ap (λ (l : List ℕ). marks m (flat f l)) (four_sift (held_in level) level (held_word level 1) (held_word level 2) (held_word level 3) (held_word level 0))
   where
-    step : (f : ℕ → List ℕ) (w r l l' : List ℕ) → l' ≡ marks l (flat f w) → marks l' (flat f r) ≡ marks l (flat f (w ++ r))
-    step f w r l l' e = rw e (sym (each_append mark (flat f w) (flat f r) l) ∙ ap (each mark l) (sym (flat_append f w r)))
+    step : (f : ℕ → List ℕ) (w r l : List ℕ) → marks (marks l (flat f w)) (flat f r) ≡ marks l (flat f (w ++ r))
+    step f w r l = sym (each_append mark (flat f w) (flat f r) l) ∙ ap (each mark l) (sym (flat_append f w r))

@@ -38,10 +38,9 @@ fn mark_word(tree: &[u8; 6656], word: u64, base: u8, below: &mut [u64; 4])
 pub fn level_below(tree: &[u8; 6656], level: &[u64; 4], below: &mut [u64; 4])
     ensures { below.new ≡ below_in tree.now level.now below.old }
 {
-    mark_word(tree, level[0], 0, below);
-    mark_word(tree, level[1], 64, below);
-    mark_word(tree, level[2], 128, below);
-    mark_word(tree, level[3], 192, below);
+    for (i, &word) in level.iter().enumerate() {
+        mark_word(tree, word, i as u8 * 64, below);
+    }
 }
 
 // A way of more than d nodes leads down from u.
