@@ -122,10 +122,11 @@ fn list_four(words: [u64; 4], out: &mut [u8]) -> usize
     ensures list { out.new ≡ inserted out.old 0 (four_of words) }
     ensures next { result ≡ length (four_of words) }
 {
-    let a = list_word(words[0], 0, out, 0);
-    let b = list_word(words[1], 64, out, a);
-    let c = list_word(words[2], 128, out, b);
-    list_word(words[3], 192, out, c)
+    let mut n = 0;
+    for (i, &word) in words.iter().enumerate() {
+        n = list_word(word, i as u8 * 64, out, n);
+    }
+    n
 }
 
 // The bits of a that b has not.
