@@ -15,7 +15,7 @@ use units::{BranchRoot, NodeUnit};
 const STRIDE: usize = 26;
 
 // Where the branches' counts begin.
-const PLACES: usize = 256;
+pub const PLACES: usize = 256;
 
 // ---- nodes
 

@@ -1,26 +1,28 @@
 -- Laws of single bits. A bit that is 0 is set by + 2 ^ k, one that is 1 cleared by - 2 ^ k; each law goes by one bit at a time.
 -- Assumes nothing.
 use mathlib.Core.Bool.{Bool, true, false, ◌||◌, ◌&&◌, not, cond}
-use mathlib.Core.Logic.{◌⊎◌, inl, inr}
+use mathlib.Core.Logic.{◌⊎◌, inl, inr, ⊎_elim}
 use mathlib.Core.Path.{◌≡◌, refl, ap, sym, ◌∙◌}
-use Prim.Native.Nat.{ℕ, zero, suc, ◌+◌, ◌-◌, ◌/◌, ◌%◌, ◌^◌, ◌≤◌, ◌<◌, min}
-use native.Mathlib.Nat.{pow-suc, div-one}
-use native.Mathlib.Numerals.{one-add}
+use Prim.Native.Nat.{ℕ, zero, suc, ◌+◌, ◌-◌, ◌/◌, ◌%◌, ◌^◌, ◌≤◌, ◌<◌, min, max}
+use native.Mathlib.Nat.{pow-suc}
 use native.Mathlib.Omega.{arith}
 use borrow.Author.Tests.{eqb-true, eqb-false, eq-eqb, ne_eqb}
-use lib.Bits.{bit_and, and_shr, and_step}
+use Rattle.std.specs.Int.{w64, bit_at}
+use Rattle.std.specs.Int.Bits.{bit_and, bit_or, and_lt}
+use Rattle.std.proofs.Math.Pow.{pow-lt}
+use Rattle.std.proofs.lemmas.Nat.{or_lt}
+use Rattle.std.proofs.lemmas.Nat.Bits.{bit_at_lowest, bit_at-suc, bit_at_and, bit_at_or, bit_at_not, bit_at-pow_same, bit_at-pow_other}
 use lib.Dec.{eqb}
-use lib.Pow.{shr-shr}
 use Rattle.ways.proofs.Tests.{same_or}
 use Rattle.held_map.specs.Bits.{bit, is_set, with_bit, without_bit, Less}
 
 pub bit_zero : (w : ℕ) → bit w 0 ≡ w % 2
 unfolding bit
-bit_zero w = ap (λ (x : ℕ). x % 2) (div-one w)
+bit_zero w = bit_at_lowest w
 
 pub bit_suc : (w k : ℕ) → bit w (suc k) ≡ bit (w / 2) k
 unfolding bit
-bit_suc w k = ap (λ (x : ℕ). x % 2) (sym (shr-shr w 1 k ∙ ap (λ (x : ℕ). w / 2 ^ x) (one-add k)))
+bit_suc w k = bit_at-suc w k
 
 pub bit_lt : (w k : ℕ) → bit w k < 2
 unfolding bit
@@ -154,36 +156,63 @@ word_ext (suc n) w v h l e =
         go true f = eqb-true a 1 (s ∙ f) ∙ sym (eqb-true b 1 f)
         go false f = let x = eqb-false a 1 (s ∙ f) in let y = eqb-false b 1 f in omega arith
 
--- ---- the complement, and the bits of one word that another has not
+-- ---- a word's bits with, and without, those of another
 
-pub bit_not : (n w k : ℕ) → w < 2 ^ n → k < n → bit (2 ^ n - 1 - w) k + bit w k ≡ 1
-bit_not zero w k h l = absurd (omega arith)
-bit_not (suc n) w zero h l = omega (arith, pow-suc 2 n, bit_zero w, bit_zero (2 ^ suc n - 1 - w))
-bit_not (suc n) w (suc k) h l =
-    let q = bit_not n (w / 2) k (omega (arith, pow-suc 2 n)) (omega arith) in
-    let e : (2 ^ suc n - 1 - w) / 2 ≡ 2 ^ n - 1 - w / 2 = omega (arith, pow-suc 2 n) in
-    rw (bit_suc (2 ^ suc n - 1 - w) k, bit_suc w k, e) q
+bit_not_lem : (w k : ℕ) → w < 2 ^ 64 → k < 64 → bit (18446744073709551615 - w) k ≡ 1 - bit w k
+unfolding bit
+bit_not_lem w k h l = bit_at_not w64 w k h l
 
 bit_and_lem : (a b k : ℕ) → bit (bit_and a b) k ≡ min (bit a k) (bit b k)
 unfolding bit
-bit_and_lem a b k =
-    let e = and_shr a b k in
-    let s = and_step (a / 2 ^ k) (b / 2 ^ k) in
-    omega (arith, e, s)
+bit_and_lem a b k = bit_at_and a b k
 
-one_bit : (x y n : ℕ) → x < 2 → y < 2 → n + y ≡ 1 → (eqb x 1 && not (eqb y 1)) ≡ eqb (min x n) 1
-one_bit zero zero n h l e = let p : n ≡ 1 = omega arith in rw p refl
-one_bit zero (suc zero) n h l e = let p : n ≡ 0 = omega arith in rw p refl
-one_bit (suc zero) zero n h l e = let p : n ≡ 1 = omega arith in rw p refl
-one_bit (suc zero) (suc zero) n h l e = let p : n ≡ 0 = omega arith in rw p refl
-one_bit (suc (suc x)) y n h l e = absurd (omega arith)
-one_bit zero (suc (suc y)) n h l e = absurd (omega arith)
-one_bit (suc zero) (suc (suc y)) n h l e = absurd (omega arith)
+bit_or_lem : (a b k : ℕ) → bit (bit_or a b) k ≡ max (bit a k) (bit b k)
+unfolding bit
+bit_or_lem a b k = bit_at_or a b k
+
+less_bit : (x y : ℕ) → x < 2 → y < 2 → eqb (min x (1 - y)) 1 ≡ (eqb x 1 && not (eqb y 1))
+less_bit zero zero h l = refl
+less_bit zero (suc zero) h l = refl
+less_bit (suc zero) zero h l = refl
+less_bit (suc zero) (suc zero) h l = refl
+less_bit (suc (suc x)) y h l = absurd (omega arith)
+less_bit x (suc (suc y)) h l = absurd (omega arith)
+
+more_bit : (x y : ℕ) → x < 2 → y < 2 → eqb (max x y) 1 ≡ (eqb y 1 || eqb x 1)
+more_bit zero zero h l = refl
+more_bit zero (suc zero) h l = refl
+more_bit (suc zero) zero h l = refl
+more_bit (suc zero) (suc zero) h l = refl
+more_bit (suc (suc x)) y h l = absurd (omega arith)
+more_bit x (suc (suc y)) h l = absurd (omega arith)
 
 pub less_set : (a b : ℕ) → b < 2 ^ 64 → Less a b (bit_and a (18446744073709551615 - b))
 less_set a b h = record { bits = λ k l. at k l }
   where
     at : (k : ℕ) → k < 64 → is_set (bit_and a (18446744073709551615 - b)) k ≡ (is_set a k && not (is_set b k))
     at k l =
-        let c = 18446744073709551615 - b in
-        sym (one_bit (bit a k) (bit b k) (bit c k) (bit_lt a k) (bit_lt b k) (bit_not 64 b k h l) ∙ ap (λ (x : ℕ). eqb x 1) (sym (bit_and_lem a c k)))
+        ap (λ (x : ℕ). eqb x 1) (bit_and_lem a (18446744073709551615 - b) k ∙ ap (min (bit a k)) (bit_not_lem b k h l))
+        ∙ less_bit (bit a k) (bit b k) (bit_lt a k) (bit_lt b k)
+
+more_set : (a b k : ℕ) → is_set (bit_or a b) k ≡ (is_set b k || is_set a k)
+more_set a b k = ap (λ (x : ℕ). eqb x 1) (bit_or_lem a b k) ∙ more_bit (bit a k) (bit b k) (bit_lt a k) (bit_lt b k)
+
+-- a power is one bit
+pow_set : (k j : ℕ) → is_set (2 ^ k) j ≡ eqb k j
+unfolding bit
+pow_set k j =
+    ⊎_elim
+    (λ (e : k ≡ j). eq-eqb (bit_at (2 ^ k) j) 1 (rw (← e) (bit_at-pow_same k)) ∙ sym (eq-eqb k j e))
+    (λ (n : k ≡ j → ⊥). ap (λ (x : ℕ). eqb x 1) (bit_at-pow_other k j (λ e. n (sym e))) ∙ sym (ne_eqb k j n))
+    (same_or k j)
+
+-- the two as code has them
+pub with_or : (w k : ℕ) → w < 2 ^ 64 → k < 64 → bit_or w (2 ^ k) ≡ with_bit w k
+with_or w k h l =
+    word_ext 64 (bit_or w (2 ^ k)) (with_bit w k) (or_lt 64 w (2 ^ k) h (pow-lt l)) (with_fits 64 k w h l)
+    (λ j p. more_set w (2 ^ k) j ∙ ap (λ (b : Bool). b || is_set w j) (pow_set k j) ∙ sym (with_set w k j))
+
+pub without_and : (w k : ℕ) → w < 2 ^ 64 → k < 64 → bit_and w (18446744073709551615 - 2 ^ k) ≡ without_bit w k
+without_and w k h l =
+    word_ext 64 (bit_and w (18446744073709551615 - 2 ^ k)) (without_bit w k) (and_lt 64 w (18446744073709551615 - 2 ^ k) h (omega arith)) (without_fits 64 k w h)
+    (λ j p. (less_set w (2 ^ k) (pow-lt l)).bits j p ∙ ap (λ (b : Bool). is_set w j && not b) (pow_set k j) ∙ sym (without_set w k j))

@@ -4,6 +4,7 @@ use mathlib.Core.Path.{◌≡◌, refl, ap, ap₂, sym, ◌∙◌}
 use mathlib.Core.List.{List, [], ◌∷◌, ◌++◌}
 use Prim.Native.Nat.{ℕ, zero, suc, ◌+◌, ◌-◌, ◌*◌, ◌/◌, ◌%◌, ◌^◌, ◌≤◌, ◌<◌}
 use native.Mathlib.Omega.{arith}
+use native.Mathlib.Numerals.{add-one}
 use native.Mathlib.Nat.{pow-suc, add-zero}
 use lib.Count.{count_trailing_zeros, under}
 use lib.Dec.{eqb}
@@ -153,11 +154,6 @@ gone_le a b = sift_le (λ u. held_in a u && not (held_in b u)) 255 1
 
 -- ---- a list stored
 
-pub inserted_length : (r d : List ℕ) (at : ℕ) → length (inserted d at r) ≡ length d
-unfolding inserted
-inserted_length [] d at = refl
-inserted_length (x ∷ r) d at = inserted_length r (set d at x) (at + 1) ∙ length-set d at x
-
 -- one list after another
 pub inserted_two : (a b d : List ℕ) (at : ℕ) → inserted (inserted d at a) (at + length a) b ≡ inserted d at (a ++ b)
 unfolding inserted
@@ -188,10 +184,6 @@ pub record WordLoop (base : ℕ) (d : List ℕ) (at word : ℕ) (out : List ℕ)
   pub long : length out ≡ length d
   pub same_list : inserted out n (bits_of 64 base w) ≡ inserted d at (bits_of 64 base word)
   pub same_next : n + length (bits_of 64 base w) ≡ at + length (bits_of 64 base word)
-
-pub word_start : {base : ℕ} {d : List ℕ} {at word : ℕ} → base ≤ 192 → at + length (bits_of 64 base word) ≤ length d → word < 2 ^ 64
-    → WordLoop base d at word d at word
-word_start b h s = record { low = b; small = s; room = h; long = refl; same_list = refl; same_next = refl }
 
 pub record WordTurn (base : ℕ) (d : List ℕ) (at word : ℕ) (out : List ℕ) (n w k : ℕ) : Type 0 where
   pub below : k < 64
@@ -226,23 +218,43 @@ word_end {base} {d} {at} {word} {out} {n} {w} i e =
 
 -- ---- four words one after another, and the outcome of the whole
 
-behind : (w r o o1 : List ℕ) (at a : ℕ) → o1 ≡ inserted o at w → a ≡ at + length w → inserted o1 a r ≡ inserted o at (w ++ r)
-behind w r o o1 at a e f = rw (e, f) (inserted_two w r o at)
+-- the place behind what the first words list, and the list with that stored
+abbrev pub placed : List ℕ → ℕ → ℕ
+placed d zero = 0
+placed d (suc i) = placed d i + length (bits_of 64 (i * 64) (get_or d i 0))
 
-pub four_in : (o d : List ℕ) {o1 o2 o3 o4 : List ℕ} {a b c e : ℕ}
-    → o1 ≡ inserted o 0 (bits_of 64 0 (get_or d 0 0)) → a ≡ 0 + length (bits_of 64 0 (get_or d 0 0))
-    → o2 ≡ inserted o1 a (bits_of 64 64 (get_or d 1 0)) → b ≡ a + length (bits_of 64 64 (get_or d 1 0))
-    → o3 ≡ inserted o2 b (bits_of 64 128 (get_or d 2 0)) → c ≡ b + length (bits_of 64 128 (get_or d 2 0))
-    → o4 ≡ inserted o3 c (bits_of 64 192 (get_or d 3 0)) → e ≡ c + length (bits_of 64 192 (get_or d 3 0))
-    → (o4 ≡ inserted o 0 (four_of d)) × (e ≡ length (four_of d))
+abbrev pub stored : List ℕ → List ℕ → ℕ → List ℕ
+stored o d zero = o
+stored o d (suc i) = inserted (stored o d i) (placed d i) (bits_of 64 (i * 64) (get_or d i 0))
+
+pub record FourLoop (o d out : List ℕ) (n i : ℕ) : Type 0 where
+  pub list : out ≡ stored o d i
+  pub next : n ≡ placed d i
+
+pub four_turn : {o d out out' : List ℕ} {n n' i : ℕ} → FourLoop o d out n i → out' ≡ inserted out n (bits_of 64 (i * 64) (get_or d i 0))
+    → n' ≡ n + length (bits_of 64 (i * 64) (get_or d i 0)) → FourLoop o d out' n' (i + 1)
+four_turn l p q = record { list = rw (add-one, p, l.list, l.next) refl; next = rw (add-one, q, l.next) refl }
+
+-- there is room for each
+pub four_room : (d : List ℕ) (i : ℕ) → i < 4 → placed d i + length (bits_of 64 (i * 64) (get_or d i 0)) ≤ length (four_of d)
+four_room d zero h = omega (arith, four_length d)
+four_room d (suc zero) h = omega (arith, four_length d)
+four_room d (suc (suc zero)) h = omega (arith, four_length d)
+four_room d (suc (suc (suc zero))) h = omega (arith, four_length d)
+four_room d (suc (suc (suc (suc i)))) h = absurd (omega arith)
+
+pub four_end : {o d out : List ℕ} {n i : ℕ} → FourLoop o d out n i → i ≡ 4 → (out ≡ inserted o 0 (four_of d)) × (n ≡ length (four_of d))
 unfolding four_of
-four_in o d {o1} {o2} {o3} {o4} {a} {b} {c} p1 q1 p2 q2 p3 q3 p4 q4 =
+four_end {o} {d} l e =
     let w0 = bits_of 64 0 (get_or d 0 0) in
     let w1 = bits_of 64 64 (get_or d 1 0) in
     let w2 = bits_of 64 128 (get_or d 2 0) in
     let w3 = bits_of 64 192 (get_or d 3 0) in (
-      p4 ∙ behind w2 w3 o2 o3 b c p3 q3 ∙ behind w1 (w2 ++ w3) o1 o2 a b p2 q2 ∙ behind w0 (w1 ++ (w2 ++ w3)) o o1 0 a p1 q1,
-      omega (arith, four_length d),
+      l.list ∙ ap (stored o d) e
+          ∙ inserted_two w2 w3 (stored o d 2) (placed d 2)
+          ∙ inserted_two w1 (w2 ++ w3) (stored o d 1) (placed d 1)
+          ∙ inserted_two w0 (w1 ++ (w2 ++ w3)) o 0,
+      l.next ∙ ap (placed d) e ∙ omega (arith, four_length d),
     )
 
 pub gone_out : (o : List ℕ) {l g o' : List ℕ} {n : ℕ} → l ≡ g → length g ≤ length o → o' ≡ inserted o 0 l → n ≡ length l

@@ -7,13 +7,15 @@ use Prim.Native.Nat.{ℕ, zero, suc, ◌+◌, ◌-◌, ◌*◌, ◌/◌, ◌%◌
 use native.Mathlib.Nat.{eq-or-lt_of_le}
 use native.Mathlib.Omega.{arith}
 use borrow.Author.Tests.{eq-eqb, ne_eqb, not-true, not-false}
-use lib.Count.{count_trailing_zeros, under, trailing_le}
+use Rattle.std.specs.Int.{w64, trailing_ones}
+use Rattle.std.specs.Int.Count.{trailing_of_zero}
+use Rattle.std.proofs.lemmas.Nat.Bits.{bit_at_ones, bit_at-trailing_ones}
 use lib.ListN.{get_or}
 use Rattle.rules.specs.Tables.{range}
 use Rattle.rules.specs.Store.{units}
 use Rattle.held_map.specs.Bits.{bit, is_set, with_bit, LowestZero}
 use Rattle.held_map.specs.Map.{held_in, first, lowest_free}
-use Rattle.held_map.proofs.Bits.{bit_zero, bit_suc, bit_not, with_set, set_bit}
+use Rattle.held_map.proofs.Bits.{with_set, set_bit}
 
 -- ---- the first of a range that passes
 
@@ -95,39 +97,21 @@ full_is m h = first_never (λ v. not (held_in m v)) 255 1 (λ v l k. ap not (h v
 
 -- ---- the lowest bit of a word that is 0
 
--- a run of zeros and the one above it
-record Run (n w t : ℕ) : Type 0 where
-  zeros : (j : ℕ) → j < t → bit w j ≡ 0
-  one : t < n → bit w t ≡ 1
-
-run : (n w : ℕ) → Run n w (count_trailing_zeros n w)
-unfolding count_trailing_zeros
-run zero w = record { zeros = λ j h. absurd (omega arith); one = λ h. absurd (omega arith) }
-run (suc n) w = go (w % 2) refl (run n (w / 2))
+pub lowest_zero : (w : ℕ) → w < 2 ^ 64 → LowestZero w (trailing_ones w64 w)
+unfolding bit
+lowest_zero w h = ⊎_elim all some (eq-or-lt_of_le h)
   where
-    go : (r : ℕ) → w % 2 ≡ r → Run n (w / 2) (count_trailing_zeros n (w / 2)) → Run (suc n) w (under (w % 2) (count_trailing_zeros n (w / 2)))
-    go zero e q =
-        let t = count_trailing_zeros n (w / 2) in
-        let z : (j : ℕ) → j < suc t → bit w j ≡ 0 = λ j h. low j h in
-        rw e (record { zeros = z; one = λ h. bit_suc w t ∙ q.one (omega arith) })
-      where
-        low : (j : ℕ) → j < suc (count_trailing_zeros n (w / 2)) → bit w j ≡ 0
-        low zero h = bit_zero w ∙ e
-        low (suc j) h = bit_suc w j ∙ q.zeros j (omega arith)
-    go (suc r) e q =
-        let o : w % 2 ≡ 1 = omega arith in
-        rw o (record { zeros = λ j h. absurd (omega arith); one = λ h. bit_zero w ∙ o })
+    all : suc w ≡ 2 ^ 64 → LowestZero w (trailing_ones w64 w)
+    all e =
+        let z : 18446744073709551615 - w ≡ 0 = omega arith in
+        let t : trailing_ones w64 w ≡ 64 = rw (z, trailing_of_zero) refl in
+        let m : w ≡ 2 ^ 64 - 1 = omega arith in
+        rw t (record { ones = λ j p. rw m (bit_at_ones 64 j p); free = λ p. absurd (omega arith); most = omega arith })
 
-pub lowest_zero : (w : ℕ) → w < 2 ^ 64 → LowestZero w (count_trailing_zeros 64 (18446744073709551615 - w))
-lowest_zero w h =
-    let v = 18446744073709551615 - w in
-    let q = run 64 v in
-    let l = trailing_le 64 v in
-    record {
-      ones = λ j p. omega (arith, bit_not 64 w j h (omega arith), q.zeros j p);
-      free = λ p. omega (arith, bit_not 64 w (count_trailing_zeros 64 v) h p, q.one p);
-      most = l;
-    }
+    some : suc w < 2 ^ 64 → LowestZero w (trailing_ones w64 w)
+    some l =
+        let t = bit_at-trailing_ones w64 w (omega arith) in
+        record { ones = t.2; free = λ p. t.1; most = omega (arith, t.0) }
 
 -- ---- over the four words
 
@@ -155,8 +139,13 @@ ones_more m q o f h i j p l =
     (λ (k : i < q). o i j k l)
     (eq-or-lt_of_le (omega arith))
 
-pub ones_first : (m : List ℕ) {w z : ℕ} → w ≡ with_bit (get_or m 0 0) 0 → LowestZero w z → LowestZero (word_from1 m 0) z
-ones_first m e f = rw (← e) f
+-- as code reads it
+pub first_word : (m : List ℕ) (q w : ℕ) → q ≡ 0 → w ≡ with_bit (get_or m q 0) 0 → w ≡ word_from1 m q
+first_word m q w z e = rw z (e ∙ ap (λ (k : ℕ). with_bit (get_or m k 0) 0) z)
+
+pub other_word : (m : List ℕ) (q w : ℕ) → (q ≡ 0 → ⊥) → w ≡ get_or m q 0 → w ≡ word_from1 m q
+other_word m zero w d e = absurd (d refl)
+other_word m (suc q) w d e = e
 
 pub ones_none : (m : List ℕ) → Ones m 0
 ones_none m i j p l = absurd (omega arith)

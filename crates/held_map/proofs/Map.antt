@@ -3,13 +3,12 @@ use mathlib.Core.Bool.{Bool, true, false, ◌||◌, ◌&&◌, not}
 use mathlib.Core.Logic.{◌⊎◌, inl, inr}
 use mathlib.Core.Path.{◌≡◌, refl, ap, sym, ◌∙◌}
 use mathlib.Core.List.{List, [], ◌∷◌}
-use Prim.Native.Nat.{ℕ, zero, suc, ◌+◌, ◌*◌, ◌/◌, ◌%◌, ◌^◌, ◌≤◌, ◌<◌}
-use native.Mathlib.Numerals.{add-one}
+use Prim.Native.Nat.{ℕ, zero, suc, ◌+◌, ◌*◌, ◌/◌, ◌%◌, ◌^◌, ◌<◌}
 use native.Mathlib.Omega.{arith}
 use borrow.Author.Tests.{eq-eqb, ne_eqb}
 use lib.Dec.{eqb}
-use lib.ListN.{length, get_or, set, drop, length-set, drop_of_length-le}
-use lib.Seq.{get_or-set_same, get_or-set_other, set-get_or, drop-cons, ext_get_or}
+use lib.ListN.{length, get_or, set, length-set}
+use lib.Seq.{get_or-set_same, get_or-set_other, set-get_or, ext_get_or}
 use Rattle.ways.specs.Ways.{has}
 use Rattle.held_map.specs.Bits.{bit, is_set, with_bit, without_bit}
 use Rattle.held_map.specs.Map.{Words, empty_map, held_in, mark, clear, clears, Bytes}
@@ -25,10 +24,6 @@ mark_length m u = length-set m _ _
 pub clear_length : (m : List ℕ) (u : ℕ) → length (clear m u) ≡ length m
 unfolding clear
 clear_length m u = length-set m _ _
-
-pub clears_length : (us m : List ℕ) → length (clears m us) ≡ length m
-clears_length [] m = refl
-clears_length (u ∷ us) m = clears_length us (clear m u) ∙ clear_length m u
 
 set_fits : (m : List ℕ) (i w : ℕ) → ((j : ℕ) → get_or m j 0 < 2 ^ 64) → w < 2 ^ 64 → (j : ℕ) → get_or (set m i w) j 0 < 2 ^ 64
 set_fits [] i w h l j = h j
@@ -111,24 +106,6 @@ mark_held m u e = rw e (set-get_or m (u / 64) 0)
 pub clear_free : (m : List ℕ) (u : ℕ) → held_in m u ≡ false → clear m u ≡ m
 unfolding held_in clear without_bit
 clear_free m u e = rw e (set-get_or m (u / 64) 0)
-
--- ---- the loop over eight units: what is left to clear, cleared from here, gives what was asked
-
-pub record ReleaseLoop (m us map : List ℕ) (i : ℕ) : Type 0 where
-  pub eight : length us ≡ 8
-  pub upto : i ≤ 8
-  pub left : clears map (drop i us) ≡ clears m us
-
-pub release_turn : {m us map map' : List ℕ} {i : ℕ} → ReleaseLoop m us map i → i < 8 → map' ≡ clear map (get_or us i 0) → ReleaseLoop m us map' (i + 1)
-release_turn {m} {us} {map} {map'} {i} l h e =
-    record {
-      eight = l.eight;
-      upto = omega arith;
-      left = rw (add-one, e) (sym (ap (clears map) (drop-cons us i 0 (omega (arith, l.eight)))) ∙ l.left);
-    }
-
-pub release_end : {m us map : List ℕ} {i : ℕ} → ReleaseLoop m us map i → 8 ≤ i → map ≡ clears m us
-release_end {m} {us} {map} {i} l h = sym (ap (clears map) (drop_of_length-le us {i = i} (omega (arith, l.eight)))) ∙ l.left
 
 -- ---- the map is what it holds
 

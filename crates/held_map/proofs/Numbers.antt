@@ -2,9 +2,10 @@
 use mathlib.Core.Bool.{Bool, true, false, cond}
 use mathlib.Core.Path.{◌≡◌, refl, ap, ◌∙◌}
 use mathlib.Core.List.{List, [], ◌∷◌}
-use Prim.Native.Nat.{ℕ, zero, suc, ◌+◌, ◌/◌, ◌%◌, ◌^◌, ◌<◌}
+use Prim.Native.Nat.{ℕ, zero, suc, ◌+◌, ◌*◌, ◌/◌, ◌%◌, ◌^◌, ◌≤◌, ◌<◌}
 use native.Mathlib.Nat.{pow-suc}
 use native.Mathlib.Omega.{arith}
+use Rattle.std.specs.List.{fold, sum_by}
 use lib.Count.{ones, ones_step, ones-le}
 use lib.ListN.{length, get_or}
 use Rattle.ways.specs.Ways.{sums, one}
@@ -14,6 +15,23 @@ use Rattle.held_map.specs.Map.{Words, held_in, held_number}
 use Rattle.held_map.specs.Lists.{with_low, bits_of, four_of}
 use Rattle.held_map.proofs.Map.{held_word}
 use Rattle.held_map.proofs.Lists.{four_sift, four_length}
+
+-- each word adds at most 64
+few : (m : List ℕ) (n : ℕ) → ((i : ℕ) → get_or m i 0 < 2 ^ 64) → fold (λ a w. a + ones w) n m ≤ n + 64 * length m
+few [] n h = omega arith
+few (w ∷ m) n h = omega (arith, ones-le 64 w (h 0), few m (n + ones w) (λ i. h (suc i)))
+
+pub number_fits : (m : List ℕ) → length m ≡ 4 → ((i : ℕ) → get_or m i 0 < 2 ^ 64) → sum_by ones m < 2 ^ 32
+number_fits m e h = omega (arith, few m 0 h)
+
+pub number_sum : (m : List ℕ) → length m ≡ 4 → sum_by ones m ≡ held_number m
+unfolding held_number
+number_sum [] e = absurd (omega arith)
+number_sum (a ∷ []) e = absurd (omega arith)
+number_sum (a ∷ b ∷ []) e = absurd (omega arith)
+number_sum (a ∷ b ∷ c ∷ []) e = absurd (omega arith)
+number_sum (a ∷ b ∷ c ∷ d ∷ []) e = omega arith
+number_sum (a ∷ b ∷ c ∷ d ∷ x ∷ m) e = absurd (omega arith)
 
 -- the ones of a word are its set bits
 ones_bits : (n b w : ℕ) → w < 2 ^ n → ones w ≡ length (bits_of n b w)

@@ -25,97 +25,71 @@ fn with_bit(w: u64, k: u8) -> u64
     requires { k < 64 }
     ensures { result ≡ with_bit w k }
 {
-    if bit_at(w, k) {
-        return w;
-    }
-    w + one_at(k)
+    w | one_at(k)
 }
 
 fn without_bit(w: u64, k: u8) -> u64
     requires { k < 64 }
     ensures { result ≡ without_bit w k }
 {
-    if bit_at(w, k) {
-        return w - one_at(k);
-    }
-    w
+    w & !one_at(k)
 }
 
 pub fn has(map: &[u64; 4], u: u8) -> bool
     ensures { result ≡ held_in map.now u }
 {
-    bit_at(map[(u / 64) as usize], u % 64)
+    bit_at(map[usize::from(u / 64)], u % 64)
 }
 
 // The unit is held afterwards, whether it was or not.
 pub fn hold(map: &mut [u64; 4], u: u8)
     ensures { map.new ≡ mark map.old u }
 {
-    let i = (u / 64) as usize;
-    let w = with_bit(map[i], u % 64);
-    map[i] = w;
+    let i = usize::from(u / 64);
+    map[i] = with_bit(map[i], u % 64);
 }
 
 // The unit is not held afterwards, whether it was or not.
 pub fn release(map: &mut [u64; 4], u: u8)
     ensures { map.new ≡ clear map.old u }
 {
-    let i = (u / 64) as usize;
-    let w = without_bit(map[i], u % 64);
-    map[i] = w;
+    let i = usize::from(u / 64);
+    map[i] = without_bit(map[i], u % 64);
 }
 
 // None of the eight is held afterwards.
 pub fn release_eight(map: &mut [u64; 4], us: [u8; 8])
     ensures { map.new ≡ clears map.old us }
 {
-    let mut i = 0;
-    while i < 8 {
-        release(map, us[i]);
-        i += 1;
+    for u in us {
+        release(map, u);
     }
-}
-
-fn ones_in(w: u64) -> u32
-    ensures { (result ≡ ones w) × (result ≤ 64) }
-{
-    u64::count_ones(w)
 }
 
 // How many units are held.
 pub fn number(map: &[u64; 4]) -> u32
     ensures { result ≡ held_number map.now }
 {
-    ones_in(map[0]) + ones_in(map[1]) + ones_in(map[2]) + ones_in(map[3])
+    map.iter().map(|w| w.count_ones()).sum()
 }
 
 // The lowest bit of w that is 0, or 64.
 fn lowest_zero(w: u64) -> u8
     ensures { LowestZero w result }
 {
-    u64::trailing_zeros(u64::MAX - w) as u8
+    w.trailing_ones() as u8
 }
 
 // The lowest unit that is not held, 0 where all are. Unit 0 counts as held.
 pub fn lowest_free(map: &[u64; 4]) -> u8
     ensures { result ≡ lowest_free map.now }
 {
-    let w = with_bit(map[0], 0);
-    let a = lowest_zero(w);
-    if a < 64 {
-        return a;
-    }
-    let b = lowest_zero(map[1]);
-    if b < 64 {
-        return 64 + b;
-    }
-    let c = lowest_zero(map[2]);
-    if c < 64 {
-        return 128 + c;
-    }
-    let d = lowest_zero(map[3]);
-    if d < 64 {
-        return 192 + d;
+    for (i, &word) in map.iter().enumerate() {
+        let word = if i == 0 { with_bit(word, 0) } else { word };
+        let zero = lowest_zero(word);
+        if zero < 64 {
+            return i as u8 * 64 + zero;
+        }
     }
     0
 }
@@ -123,7 +97,7 @@ pub fn lowest_free(map: &[u64; 4]) -> u8
 pub fn lowest_one(w: u64) -> u32
     ensures { result ≡ count_trailing_zeros 64 w }
 {
-    u64::trailing_zeros(w)
+    w.trailing_zeros()
 }
 
 // The set bits of a word, lowest first, from `at` on: a turn for each of them and none for the others.
@@ -148,17 +122,18 @@ fn list_four(words: [u64; 4], out: &mut [u8]) -> usize
     ensures list { out.new ≡ inserted out.old 0 (four_of words) }
     ensures next { result ≡ length (four_of words) }
 {
-    let a = list_word(words[0], 0, out, 0);
-    let b = list_word(words[1], 64, out, a);
-    let c = list_word(words[2], 128, out, b);
-    list_word(words[3], 192, out, c)
+    let mut n = 0;
+    for (i, &word) in words.iter().enumerate() {
+        n = list_word(word, i as u8 * 64, out, n);
+    }
+    n
 }
 
 // The bits of a that b has not.
 fn less(a: u64, b: u64) -> u64
     ensures { Less a b result }
 {
-    a & (u64::MAX - b)
+    a & !b
 }
 
 // The units held before and not after, ascending, at the front of out. Unit 0 is never listed, so 255 bytes are enough.

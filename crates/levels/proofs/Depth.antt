@@ -14,7 +14,6 @@ use Rattle.ways.proofs.Tests.{T→eq, eq→T, or_e, or_l, or_r, same_or}
 use Rattle.ways.proofs.Levels.{deep_set}
 use Rattle.ways.proofs.Members.{has_append, sums_none}
 use Rattle.rules.specs.Tables.{sift, range}
-use Rattle.rules.specs.Store.{root_list}
 use Rattle.records.specs.Rows.{AllBytes}
 use Rattle.held_map.specs.Map.{Words, held_in, mark, empty_map, held_number}
 use Rattle.held_map.proofs.Map.{mark_words, mark_length, held_mark, empty_words, empty_held}
@@ -193,18 +192,3 @@ unfolding level_in
 level_turn tree level below d i end p e left =
     let q : d - i ≡ suc (d - (i + 1)) = omega arith in
     rw e (ap (λ (k : ℕ). level_in tree k level) (sym q) ∙ left)
-
-pub level_start : (tree level : List ℕ) (d : ℕ) → level_in tree (d - 0) level ≡ level_in tree d level
-level_start tree level d =
-    let z : d - 0 ≡ d = omega arith in
-    ap (λ (k : ℕ). level_in tree k level) z
-
--- ---- from the root, where there is one
-
-pub way_none : (f : ℕ → ℕ) (r root : ℕ) → root ≡ r → root ≡ 0 → false ≡ not (eqb (sums f (root_list r)) 0)
-way_none f r root e z = rw (← e, z) refl
-
-pub way_some : (f : ℕ → ℕ) (r root : ℕ) (b : Bool) → root ≡ r → (root ≡ 0 → ⊥) → b ≡ not (eqb (f root) 0) → b ≡ not (eqb (sums f (root_list r)) 0)
-way_some f r root b e d q =
-    let z : f root + 0 ≡ f root = omega arith in
-    rw (← e, ne_eqb root 0 d, z) q

@@ -16,12 +16,8 @@ fn mark_children(tree: &[u8; 6656], u: NodeUnit, below: &mut [u64; 4])
     ensures { below.new ≡ marks below.old (children_in tree.now u.0) }
 {
     let n = counting::read_node(tree, u);
-    let end = counting::up_to(n.child_number);
-    let children = n.children;
-    let mut i = 0;
-    while i < end {
-        held_map::hold(below, children[i]);
-        i += 1;
+    for &c in counting::part(&n.children, 0, n.child_number) {
+        held_map::hold(below, c);
     }
 }
 
@@ -42,25 +38,21 @@ fn mark_word(tree: &[u8; 6656], word: u64, base: u8, below: &mut [u64; 4])
 pub fn level_below(tree: &[u8; 6656], level: &[u64; 4], below: &mut [u64; 4])
     ensures { below.new ≡ below_in tree.now level.now below.old }
 {
-    mark_word(tree, level[0], 0, below);
-    mark_word(tree, level[1], 64, below);
-    mark_word(tree, level[2], 128, below);
-    mark_word(tree, level[3], 192, below);
+    for (i, &word) in level.iter().enumerate() {
+        mark_word(tree, word, i as u8 * 64, below);
+    }
 }
 
 // A way of more than d nodes leads down from u.
 pub fn longer(tree: &[u8; 6656], u: NodeUnit, d: u8) -> bool
     ensures { result ≡ not (eqb (deep (children_in tree.now) d u.0) 0) }
 {
-    records::bytes(tree);
-    let mut level = [0u64; 4];
+    let mut level = [0; 4];
     held_map::hold(&mut level, u.0);
-    let mut gone_down = 0;
-    while gone_down < d {
-        let mut below = [0u64; 4];
+    for _ in 0..d {
+        let mut below = [0; 4];
         level_below(tree, &level, &mut below);
         level = below;
-        gone_down += 1;
     }
     held_map::number(&level) != 0
 }
@@ -71,9 +63,5 @@ pub fn way_of(tree: &[u8; 6656], nodes: u8) -> bool
     ensures { result ≡ not (eqb (sums (deep (children_in tree.now) (nodes - 1)) (root_list (get_or tree.now 0 0))) 0) }
 {
     let root = counting::root(tree);
-    let unit = root.0;
-    if unit == 0 {
-        return false;
-    }
-    longer(tree, root, nodes - 1)
+    !root.is_none() && longer(tree, root, nodes - 1)
 }

@@ -10,7 +10,9 @@ use lib.Dec.{T, eqb, eqb_refl, ltb}
 use lib.ListN.{length, get_or, set, replicate, length-set, length-replicate}
 use lib.Seq.{get_or-set_same, get_or-set_other}
 use borrow.Author.Tests.{eq-eqb, ne_eqb, eqb-true, ltb-true, ltb-false}
+use Rattle.std.specs.Prelude.{Result, Ok}
 use Rattle.units.specs.Limits.{last_unit, longest, most_count}
+use Rattle.units.specs.declared.Refusal.{Refusal}
 use Rattle.ways.specs.Ways.{sums, one, is, has, flat, total, visits}
 use Rattle.ways.proofs.Tests.{T→eq, or_e, or_l, or_r, same_or}
 use Rattle.ways.proofs.Members.{has_append}
@@ -20,8 +22,6 @@ use Rattle.rules.specs.Store.{root_list}
 use Rattle.records.specs.Rows.{AllBytes}
 use Rattle.counting.specs.Places.{place_of}
 use Rattle.counting.specs.Graph.{children_in, buffers_in, child_small, buffer_small}
-use Rattle.recount.specs.declared.Walk.{Walk}
-use Rattle.recount.specs.declared.Walk.TheVariants.{Done, Over}
 use Rattle.recount.specs.Walks.{counted, places_of, visit_of, counts_of, Outcome}
 use Rattle.recount.specs.Recounts.{ways_in, places_in, Fits, Recounted}
 
@@ -206,7 +206,7 @@ module _ (tree : List ℕ) (b : AllBytes tree) where
       (or_e (eqb u j) (has j (places_of (buffers_in tree u) ++ counts_of tree us)) t)
 
   -- the counts begin as zeros
-  pub whole : (t : List ℕ) (r : Walk) → Outcome (counted (zeros 512) (counts_of tree visited)) t r → Recounted tree t r
+  pub whole : (t : List ℕ) (r : Result (Unit {0}) Refusal) → Outcome (counted (zeros 512) (counts_of tree visited)) t r → Recounted tree t r
   whole t r o = go (counted (zeros 512) (counts_of tree visited)) refl o
     where
       within : Within (zeros 512) (counts_of tree visited)
@@ -217,13 +217,11 @@ module _ (tree : List ℕ) (b : AllBytes tree) where
           let c = counted_over (counts_of tree visited) (zeros 512) within e in
           let high : most_count < times c.0 (counts_of tree visited) = omega (arith, c.2, zero_at 512 c.0) in
           record {
-            whether = (λ d. absurd (apart d o), λ f. absurd (too_high c.0 (within c.0 c.1) high f));
-            right = λ d. absurd (apart d o);
+            whether = (λ d. let z = rw o at d in cc, λ f. absurd (too_high c.0 (within c.0 c.1) high f));
+            refused = rw o refl;
+            right = rw o tt;
           }
         where
-          apart : r ≡ Done → r ≡ Over → ⊥
-          apart p q = let z : ◌≡◌ {A = ℕ} 0 1 = cc in omega arith
-
           too_high : (j : ℕ) → j < 512 → most_count < times j (counts_of tree visited) → Fits tree → ⊥
           too_high j h m f = at (ltb j 256) refl
             where
@@ -238,17 +236,18 @@ module _ (tree : List ℕ) (b : AllBytes tree) where
           let ways : (u : ℕ) → u ≤ last_unit → get_or l u 0 ≡ ways_in tree u = λ u h. omega (arith, a.at u, zero_at 512 u, ways_counted u (omega arith)) in
           let places : (r : ℕ) → r ≤ last_unit → get_or l (place_of r) 0 ≡ places_in tree r = λ r h. omega (arith, a.at (place_of r), zero_at 512 (place_of r), places_counted r) in
           record {
-            whether = (λ d. record { ways = λ u h. omega (arith, ways u h, a.most u); places = λ r h. omega (arith, places r h, a.most (place_of r)) }, λ f. o.0);
-            right = λ d. rw o.1 (record { long = a.long ∙ length-replicate {A = ℕ} 512 0; ways = ways; places = places });
+            whether = (λ d. record { ways = λ u h. omega (arith, ways u h, a.most u); places = λ r h. omega (arith, places r h, a.most (place_of r)) }, λ f. rw o.0 refl);
+            refused = rw o.0 tt;
+            right = rw (o.0, o.1) (record { long = a.long ∙ length-replicate {A = ℕ} 512 0; ways = ways; places = places });
           }
 
 -- ---- the two ends: no root, or a walk from it
 
-pub recount_none : (tree : List ℕ) (root : ℕ) → AllBytes tree → root ≡ get_or tree 0 0 → root ≡ 0 → Recounted tree (zeros 512) Done
+pub recount_none : (tree : List ℕ) (root : ℕ) → AllBytes tree → root ≡ get_or tree 0 0 → root ≡ 0 → Recounted tree (zeros 512) (Ok tt)
 unfolding counted
-recount_none tree root b e z = whole tree b (zeros 512) Done (rw (← e, z) (refl, refl))
+recount_none tree root b e z = whole tree b (zeros 512) (Ok tt) (rw (← e, z) (refl, refl))
 
-pub recount_some : (tree : List ℕ) (root : ℕ) (t : List ℕ) (r : Walk) → AllBytes tree → root ≡ get_or tree 0 0 → (root ≡ 0 → ⊥)
+pub recount_some : (tree : List ℕ) (root : ℕ) (t : List ℕ) (r : Result (Unit {0}) Refusal) → AllBytes tree → root ≡ get_or tree 0 0 → (root ≡ 0 → ⊥)
     → Outcome (counted (zeros 512) (counts_of tree (visits (children_in tree) longest root))) t r → Recounted tree t r
 recount_some tree root t r b e d o =
     whole tree b t r

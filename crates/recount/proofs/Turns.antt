@@ -6,26 +6,28 @@ use mathlib.Core.Option.{Option, none, some}
 use Prim.Native.Nat.{ℕ, zero, suc, ◌+◌, ◌-◌, ◌≤◌, ◌<◌}
 use native.Mathlib.Omega.{arith}
 use lib.Dec.{ltb}
-use lib.ListN.{length, get_or, set, take, drop, length-drop}
-use lib.Seq.{take_all}
+use native.Mathlib.Numerals.{add-one}
+use lib.ListN.{length, get_or, set, take, drop, drop_of_length-le}
+use lib.Seq.{drop-cons}
 use borrow.Author.Tests.{lt-ltb, le-ltb}
-use Rattle.units.specs.Limits.{room, most_count}
+use Rattle.std.specs.Prelude.{Result, Ok, Err, IsErr, IsErrAnd}
+use Rattle.std.proofs.lemmas.Result.{err_from_is_err_and}
+use Rattle.units.specs.Limits.{most_count}
+use Rattle.units.specs.declared.Refusal.{Refusal}
+use Rattle.units.specs.declared.Refusal.TheVariants.{RecountTooHigh}
 use Rattle.ways.specs.Ways.{flat, visits}
 use Rattle.ways.proofs.Frame.{flat_append}
 use Rattle.rules.specs.Tables.{slice}
 use Rattle.counting.specs.declared.Node.{Node}
 use Rattle.counting.specs.Nodes.{node_in}
-use Rattle.counting.specs.Places.{place_of, up_to}
+use Rattle.counting.specs.Places.{place_of}
 use Rattle.counting.specs.Graph.{children_in, buffers_in, node_children, node_buffers}
-use Rattle.counting.proofs.Each.{run_whole, run_turn, run_end}
-use Rattle.recount.specs.declared.Walk.{Walk}
-use Rattle.recount.specs.declared.Walk.TheVariants.{Done, Over}
 use Rattle.recount.specs.Walks.{counted, places_of, visit_of, counts_of, Outcome}
 
--- ---- a part, then the rest
+abbrev pub Answer : Type 0
+Answer = Result (Unit {0}) Refusal
 
-apart : (r : Walk) → r ≡ Done → r ≡ Over → ⊥
-apart r p q = let z : ◌≡◌ {A = ℕ} 0 1 = cc in omega arith
+-- ---- a part, then the rest
 
 abbrev then : Option (List ℕ) → (List ℕ → Option (List ℕ)) → Option (List ℕ)
 then none f = none
@@ -42,92 +44,78 @@ counted_append (i ∷ a) b t = go (ltb (get_or t i 0) most_count) (counted_appen
     go false e = refl
 
 -- all of the part was counted: the rest goes on from there
-pub next : (a b t t' : List ℕ) (r : Walk) → Outcome (counted t a) t' r → r ≡ Done → counted t (a ++ b) ≡ counted t' b
-next a b t t' r o e = counted_append a b t ∙ go (counted t a) o
+pub next : (a b t t' : List ℕ) → Outcome (counted t a) t' (Ok tt) → counted t (a ++ b) ≡ counted t' b
+next a b t t' o = counted_append a b t ∙ go (counted t a) o
   where
-    go : (x : Option (List ℕ)) → Outcome x t' r → then x (λ l. counted l b) ≡ counted t' b
-    go none o = absurd (apart r e o)
+    go : (x : Option (List ℕ)) → Outcome x t' (Ok tt) → then x (λ l. counted l b) ≡ counted t' b
+    go none o = cc
     go (some l) o = ap (λ (l : List ℕ). counted l b) (sym o.1)
 
--- it was not: so neither is the whole
-pub halt : (a b t t' : List ℕ) (r : Walk) → Outcome (counted t a) t' r → r ≡ Over → counted t (a ++ b) ≡ none
-halt a b t t' r o e = counted_append a b t ∙ go (counted t a) o
+-- it was not: so neither is the whole, and what turned the part down is passed on
+pub halt : (a b t t' : List ℕ) {e : Refusal} {r : Answer} → Outcome (counted t a) t' (Err e) → r ≡ Err e → Outcome (counted t (a ++ b)) t' r
+halt a b t t' {e} {r} o p = rw (counted_append a b t, p) (go (counted t a) o)
   where
-    go : (x : Option (List ℕ)) → Outcome x t' r → then x (λ l. counted l b) ≡ none
-    go none o = refl
-    go (some l) o = absurd (apart r o.0 e)
+    go : (x : Option (List ℕ)) → Outcome x t' (Err e) → Outcome (then x (λ l. counted l b)) t' (Err e)
+    go none o = o
+    go (some l) o = absurd (cc o.0)
 
-pub over : (o : Option (List ℕ)) (t : List ℕ) → o ≡ none → Outcome o t Over
-over o t e = rw e refl
+-- the same list in other words
+on : {o o' : Option (List ℕ)} (t : List ℕ) (r : Answer) → o ≡ o' → Outcome o' t r → Outcome o t r
+on t r e x = rw e x
 
-pub on : (o o' : Option (List ℕ)) (t : List ℕ) (r : Walk) → o ≡ o' → Outcome o' t r → Outcome o t r
-on o o' t r e x = rw e x
+-- what the exit of a `?` gives back
+pub passed : (r : Answer) (e : Refusal) → IsErr r × IsErrAnd r (λ y. y ≡ e) → r ≡ Err e
+passed r e h = let p = err_from_is_err_and r h.1 in p.1 ∙ ap Err p.2
 
 -- ---- one place
 
-pub one_done : (t : List ℕ) (i : ℕ) → get_or t i 0 < most_count → Outcome (counted t (i ∷ [])) (set t i (get_or t i 0 + 1)) Done
+pub one_done : (t : List ℕ) (i : ℕ) → get_or t i 0 < most_count → Outcome (counted t (i ∷ [])) (set t i (get_or t i 0 + 1)) (Ok tt)
 unfolding counted
 one_done t i h = rw (lt-ltb (get_or t i 0) most_count h) (refl, refl)
 
-pub one_over : (t : List ℕ) (i : ℕ) → most_count ≤ get_or t i 0 → Outcome (counted t (i ∷ [])) t Over
+pub one_over : (t : List ℕ) (i : ℕ) → most_count ≤ get_or t i 0 → Outcome (counted t (i ∷ [])) t (Err RecountTooHigh)
 unfolding counted
 one_over t i h = rw (le-ltb (get_or t i 0) most_count h) refl
 
 -- ---- the loop over the buffers: what is left, counted from here, gives what was asked
 
-pub record BufferLoop (bs t₀ t : List ℕ) (end i : ℕ) : Type 0 where
-  pub eight : length bs ≡ room
-  pub most : end ≤ room
-  pub left : counted t (places_of (slice i (end - i) bs)) ≡ counted t₀ (places_of (slice 0 (end - 0) bs))
+abbrev pub Left : (bs t₀ t : List ℕ) (i : ℕ) → Type 0
+Left bs t₀ t i = counted t (places_of (drop i bs)) ≡ counted t₀ (places_of bs)
 
-pub buffers_turn : {bs t₀ t : List ℕ} {end i : ℕ} (t' : List ℕ) (r : Walk) → BufferLoop bs t₀ t end i → i < end
-    → Outcome (counted t (place_of (get_or bs i 0) ∷ [])) t' r → r ≡ Done → BufferLoop bs t₀ t' end (i + 1)
-buffers_turn {bs} {t₀} {t} {end} {i} t' r v p o e =
-    record {
-      eight = v.eight;
-      most = v.most;
-      left =
-          sym (next (place_of (get_or bs i 0) ∷ []) (places_of (slice (i + 1) (end - (i + 1)) bs)) t t' r o e)
-          ∙ ap (λ (l : List ℕ). counted t (places_of l)) (sym (run_turn bs i end p (omega (arith, v.eight, v.most))))
-          ∙ v.left;
-    }
+-- what stands from i on
+buffers_from : (bs : List ℕ) (i : ℕ) → i < length bs → places_of (drop i bs) ≡ place_of (get_or bs i 0) ∷ places_of (drop (i + 1) bs)
+buffers_from bs i h = rw (drop-cons bs i 0 h, add-one) refl
 
-pub buffers_over : {bs t₀ t : List ℕ} {end i : ℕ} (number : ℕ) (t' : List ℕ) (r : Walk) → BufferLoop bs t₀ t end i → i < end
-    → Outcome (counted t (place_of (get_or bs i 0) ∷ [])) t' r → r ≡ Over → end ≡ up_to number → Outcome (counted t₀ (places_of (take number bs))) t' Over
-buffers_over {bs} {t₀} {t} {end} {i} number t' r v p o e q =
-    over (counted t₀ (places_of (take number bs))) t'
-    (ap (λ (l : List ℕ). counted t₀ (places_of l)) (sym (run_whole bs number end v.eight q))
-    ∙ sym v.left
-    ∙ ap (λ (l : List ℕ). counted t (places_of l)) (run_turn bs i end p (omega (arith, v.eight, v.most)))
-    ∙ halt (place_of (get_or bs i 0) ∷ []) (places_of (slice (i + 1) (end - (i + 1)) bs)) t t' r o e)
+-- all places of a list, as far as it is used
+part_whole : (n : ℕ) (l part : List ℕ) → part ≡ slice 0 (n - 0) l → part ≡ take n l
+part_whole n l part e =
+    let z : n - 0 ≡ n = omega arith in
+    e ∙ ap (λ (k : ℕ). take k l) z
 
-pub buffers_end : {bs t₀ t : List ℕ} {end i : ℕ} (number : ℕ) → BufferLoop bs t₀ t end i → end ≤ i → end ≡ up_to number
-    → Outcome (counted t₀ (places_of (take number bs))) t Done
+pub buffers_turn : (bs t₀ t t' : List ℕ) (i : ℕ) → i < length bs → Left bs t₀ t i → Outcome (counted t (place_of (get_or bs i 0) ∷ [])) t' (Ok tt) → Left bs t₀ t' (i + 1)
+buffers_turn bs t₀ t t' i h v o =
+    sym (next (place_of (get_or bs i 0) ∷ []) (places_of (drop (i + 1) bs)) t t' o) ∙ ap (counted t) (sym (buffers_from bs i h)) ∙ v
+
+pub buffers_over : (n : ℕ) (l bs t₀ t t' : List ℕ) (i : ℕ) {e : Refusal} {r : Answer} → bs ≡ slice 0 (n - 0) l → i < length bs → Left bs t₀ t i
+    → Outcome (counted t (place_of (get_or bs i 0) ∷ [])) t' (Err e) → r ≡ Err e → Outcome (counted t₀ (places_of (take n l))) t' r
+buffers_over n l bs t₀ t t' i {e} {r} q h v o p =
+    rw (← part_whole n l bs q)
+    (on t' r (sym v ∙ ap (counted t) (buffers_from bs i h)) (halt (place_of (get_or bs i 0) ∷ []) (places_of (drop (i + 1) bs)) t t' o p))
+
+pub buffers_end : (n : ℕ) (l bs t₀ t : List ℕ) (i : ℕ) → bs ≡ slice 0 (n - 0) l → length bs ≤ i → Left bs t₀ t i → Outcome (counted t₀ (places_of (take n l))) t (Ok tt)
 unfolding counted
-buffers_end {bs} {t₀} {t} {end} {i} number v p q =
-    on (counted t₀ (places_of (take number bs))) (some t) t Done
-    (ap (λ (l : List ℕ). counted t₀ (places_of l)) (sym (run_whole bs number end v.eight q))
-    ∙ sym v.left
-    ∙ ap (λ (l : List ℕ). counted t (places_of l)) (run_end bs i end p))
-    (refl, refl)
+buffers_end n l bs t₀ t i q h v =
+    let z : drop i bs ≡ [] = drop_of_length-le bs {i = i} h in
+    rw (← part_whole n l bs q) (on {o' = some t} t (Ok tt) (sym v ∙ ap (λ (l : List ℕ). counted t (places_of l)) z) (refl, refl))
 
 -- ---- one node
 
-pub node_on : (tree : List ℕ) (u : ℕ) (n : Node) (t t' t'' : List ℕ) (r r' : Walk) → Outcome (counted t (u ∷ [])) t' r → r ≡ Done → n ≡ node_in tree u
-    → Outcome (counted t' (places_of (take n.buffer_number n.buffers))) t'' r' → Outcome (counted t (visit_of tree u)) t'' r'
-node_on tree u n t t' t'' r r' o e en o' =
-    on (counted t (visit_of tree u)) (counted t' (places_of (buffers_in tree u))) t'' r'
-    (next (u ∷ []) (places_of (buffers_in tree u)) t t' r o e)
-    (rw (node_buffers tree u n en).1 at o')
-
-pub node_over : (tree : List ℕ) (u : ℕ) (t t' : List ℕ) (r : Walk) → Outcome (counted t (u ∷ [])) t' r → r ≡ Over → Outcome (counted t (visit_of tree u)) t' Over
-node_over tree u t t' r o e = over (counted t (visit_of tree u)) t' (halt (u ∷ []) (places_of (buffers_in tree u)) t t' r o e)
+pub node_on : (tree : List ℕ) (u : ℕ) (n : Node) (t t' t'' : List ℕ) (r : Answer) → Outcome (counted t (u ∷ [])) t' (Ok tt) → n ≡ node_in tree u
+    → Outcome (counted t' (places_of (take n.buffer_number n.buffers))) t'' r → Outcome (counted t (visit_of tree u)) t'' r
+node_on tree u n t t' t'' r o en o' =
+    on t'' r (next (u ∷ []) (places_of (buffers_in tree u)) t t' o) (rw (node_buffers tree u n en).1 at o')
 
 -- ---- the walks
-
-pub walk_none : (tree : List ℕ) (d u : ℕ) (t : List ℕ) → d ≡ 0 → Outcome (counted t (counts_of tree (visits (children_in tree) d u))) t Done
-unfolding visits counted
-walk_none tree d u t e = rw e (refl, refl)
 
 -- the node, then its children
 walk_split : (tree : List ℕ) (d u : ℕ) → (d ≡ 0 → ⊥) → counts_of tree (visits (children_in tree) d u) ≡ visit_of tree u ++ counts_of tree (flat (visits (children_in tree) (d - 1)) (children_in tree u))
@@ -137,62 +125,47 @@ walk_split tree (suc d) u h =
     let p : suc d - 1 ≡ d = omega arith in
     rw p refl
 
-taken_children : (tree : List ℕ) (u : ℕ) (n : Node) (end : ℕ) → n ≡ node_in tree u → end ≡ up_to n.child_number → take end n.children ≡ children_in tree u
-taken_children tree u n end e q =
-    let z : end ≡ end - 0 = omega arith in
-    let c = node_children tree u n e in
-    ap (λ (k : ℕ). take k n.children) z ∙ run_whole n.children n.child_number end c.0 q ∙ c.1
+pub walk_none : (tree : List ℕ) (d u : ℕ) (t : List ℕ) → d ≡ 0 → Outcome (counted t (counts_of tree (visits (children_in tree) d u))) t (Ok tt)
+unfolding visits counted
+walk_none tree d u t e = rw e (refl, refl)
 
-pub walk_on : (tree : List ℕ) (d u : ℕ) (n : Node) (end : ℕ) (t t' t'' : List ℕ) (r r' : Walk) → (d ≡ 0 → ⊥) → Outcome (counted t (visit_of tree u)) t' r → r ≡ Done
-    → n ≡ node_in tree u → end ≡ up_to n.child_number
-    → Outcome (counted t' (counts_of tree (flat (visits (children_in tree) (d - 1)) (take end n.children)))) t'' r'
-    → Outcome (counted t (counts_of tree (visits (children_in tree) d u))) t'' r'
-walk_on tree d u n end t t' t'' r r' h o e en q o' =
-    let rest = counts_of tree (flat (visits (children_in tree) (d - 1)) (children_in tree u)) in
-    on (counted t (counts_of tree (visits (children_in tree) d u))) (counted t' rest) t'' r'
-    (ap (counted t) (walk_split tree d u h) ∙ next (visit_of tree u) rest t t' r o e)
-    (rw (taken_children tree u n end en q) at o')
+pub walk_on : (tree : List ℕ) (d u : ℕ) (n : Node) (cs t t' t'' : List ℕ) (r : Answer) → (d ≡ 0 → ⊥) → Outcome (counted t (visit_of tree u)) t' (Ok tt)
+    → n ≡ node_in tree u → cs ≡ slice 0 (n.child_number - 0) n.children
+    → Outcome (counted t' (counts_of tree (flat (visits (children_in tree) (d - 1)) cs))) t'' r
+    → Outcome (counted t (counts_of tree (visits (children_in tree) d u))) t'' r
+walk_on tree d u n cs t t' t'' r h o en ec o' =
+    let same : cs ≡ children_in tree u = part_whole n.child_number n.children cs ec ∙ (node_children tree u n en).1 in
+    on t'' r
+    (ap (counted t) (walk_split tree d u h) ∙ next (visit_of tree u) (counts_of tree (flat (visits (children_in tree) (d - 1)) (children_in tree u))) t t' o)
+    (rw same at o')
 
-pub walk_over : (tree : List ℕ) (d u : ℕ) (t t' : List ℕ) (r : Walk) → (d ≡ 0 → ⊥) → Outcome (counted t (visit_of tree u)) t' r → r ≡ Over
-    → Outcome (counted t (counts_of tree (visits (children_in tree) d u))) t' Over
-walk_over tree d u t t' r h o e =
-    over (counted t (counts_of tree (visits (children_in tree) d u))) t'
-    (ap (counted t) (walk_split tree d u h) ∙ halt (visit_of tree u) (counts_of tree (flat (visits (children_in tree) (d - 1)) (children_in tree u))) t t' r o e)
+pub walk_over : (tree : List ℕ) (d u : ℕ) (t t' : List ℕ) {e : Refusal} {r : Answer} → (d ≡ 0 → ⊥) → Outcome (counted t (visit_of tree u)) t' (Err e) → r ≡ Err e
+    → Outcome (counted t (counts_of tree (visits (children_in tree) d u))) t' r
+walk_over tree d u t t' {e} {r} h o p =
+    on t' r (ap (counted t) (walk_split tree d u h)) (halt (visit_of tree u) (counts_of tree (flat (visits (children_in tree) (d - 1)) (children_in tree u))) t t' o p)
 
--- what `&l[1..]` holds
-abbrev pub rest : List ℕ → List ℕ
-rest l = take (length l - 1) (drop 1 l)
-
-rest_drop : (l : List ℕ) → rest l ≡ drop 1 l
-rest_drop l = take_all (length l - 1) (drop 1 l) (simp length-drop (omega arith))
-
-pub children_none : (tree : List ℕ) (d : ℕ) (cs t : List ℕ) → length cs ≡ 0 → Outcome (counted t (counts_of tree (flat (visits (children_in tree) d) cs))) t Done
+pub children_none : (tree : List ℕ) (d : ℕ) (cs t : List ℕ) → length cs ≡ 0 → Outcome (counted t (counts_of tree (flat (visits (children_in tree) d) cs))) t (Ok tt)
 unfolding counted
 children_none tree d [] t e = (refl, refl)
 children_none tree d (c ∷ cs) t e = absurd (omega arith)
 
 -- the first, then the others
-children_split : (tree : List ℕ) (d : ℕ) (cs : List ℕ) → 0 < length cs
-    → counts_of tree (flat (visits (children_in tree) d) cs) ≡ counts_of tree (visits (children_in tree) d (get_or cs 0 0)) ++ counts_of tree (flat (visits (children_in tree) d) (rest cs))
-children_split tree d [] h = absurd (omega arith)
-children_split tree d (c ∷ cs) h =
-    flat_append (visit_of tree) (visits (children_in tree) d c) (flat (visits (children_in tree) d) cs)
-    ∙ ap (λ (l : List ℕ). counts_of tree (visits (children_in tree) d c) ++ counts_of tree (flat (visits (children_in tree) d) l)) (sym (rest_drop (c ∷ cs)))
+children_split : (tree : List ℕ) (d c : ℕ) (cs rest : List ℕ) → cs ≡ c ∷ rest
+    → counts_of tree (flat (visits (children_in tree) d) cs) ≡ counts_of tree (visits (children_in tree) d c) ++ counts_of tree (flat (visits (children_in tree) d) rest)
+children_split tree d c cs rest e = rw e (flat_append (visit_of tree) (visits (children_in tree) d c) (flat (visits (children_in tree) d) rest))
 
-pub children_on : (tree : List ℕ) (d : ℕ) (cs t t' t'' : List ℕ) (r r' : Walk) → 0 < length cs
-    → Outcome (counted t (counts_of tree (visits (children_in tree) d (get_or cs 0 0)))) t' r → r ≡ Done
-    → Outcome (counted t' (counts_of tree (flat (visits (children_in tree) d) (rest cs)))) t'' r'
-    → Outcome (counted t (counts_of tree (flat (visits (children_in tree) d) cs))) t'' r'
-children_on tree d cs t t' t'' r r' h o e o' =
-    let more = counts_of tree (flat (visits (children_in tree) d) (rest cs)) in
-    on (counted t (counts_of tree (flat (visits (children_in tree) d) cs))) (counted t' more) t'' r'
-    (ap (counted t) (children_split tree d cs h) ∙ next (counts_of tree (visits (children_in tree) d (get_or cs 0 0))) more t t' r o e)
-    o'
+pub children_on : (tree : List ℕ) (d c : ℕ) (cs rest t t' t'' : List ℕ) (r : Answer) → cs ≡ c ∷ rest
+    → Outcome (counted t (counts_of tree (visits (children_in tree) d c))) t' (Ok tt)
+    → Outcome (counted t' (counts_of tree (flat (visits (children_in tree) d) rest))) t'' r
+    → Outcome (counted t (counts_of tree (flat (visits (children_in tree) d) cs))) t'' r
+children_on tree d c cs rest t t' t'' r h o =
+    on t'' r
+    (ap (counted t) (children_split tree d c cs rest h)
+    ∙ next (counts_of tree (visits (children_in tree) d c)) (counts_of tree (flat (visits (children_in tree) d) rest)) t t' o)
 
-pub children_over : (tree : List ℕ) (d : ℕ) (cs t t' : List ℕ) (r : Walk) → 0 < length cs
-    → Outcome (counted t (counts_of tree (visits (children_in tree) d (get_or cs 0 0)))) t' r → r ≡ Over
-    → Outcome (counted t (counts_of tree (flat (visits (children_in tree) d) cs))) t' Over
-children_over tree d cs t t' r h o e =
-    over (counted t (counts_of tree (flat (visits (children_in tree) d) cs))) t'
-    (ap (counted t) (children_split tree d cs h)
-    ∙ halt (counts_of tree (visits (children_in tree) d (get_or cs 0 0))) (counts_of tree (flat (visits (children_in tree) d) (rest cs))) t t' r o e)
+pub children_over : (tree : List ℕ) (d c : ℕ) (cs rest t t' : List ℕ) {e : Refusal} {r : Answer} → cs ≡ c ∷ rest
+    → Outcome (counted t (counts_of tree (visits (children_in tree) d c))) t' (Err e) → r ≡ Err e
+    → Outcome (counted t (counts_of tree (flat (visits (children_in tree) d) cs))) t' r
+children_over tree d c cs rest t t' {e} {r} h o p =
+    on t' r (ap (counted t) (children_split tree d c cs rest h))
+    (halt (counts_of tree (visits (children_in tree) d c)) (counts_of tree (flat (visits (children_in tree) d) rest)) t t' o p)

@@ -1,14 +1,14 @@
 -- The counts that the bytes of a tree have, right or not: of each node the ways to it, of each branch its places over all ways.
 -- Assumes nothing.
-use Rattle.std.specs.Prelude.{◌≡◌, ◌↔◌, List, ℕ, ◌≤◌, length, get_or}
+use Rattle.std.specs.Prelude.{◌≡◌, ◌↔◌, Result, IsOk, OnOk, IsOkUnless, List, ℕ, ◌≤◌, length, get_or}
 use Rattle.units.specs.Limits.{last_unit, longest, most_count}
+use Rattle.units.specs.declared.Refusal.{Refusal}
+use Rattle.units.specs.declared.Refusal.TheVariants.{RecountTooHigh}
 use Rattle.ways.specs.Ways.{sums, total, is}
 use Rattle.rules.specs.Tables.{times}
 use Rattle.rules.specs.Store.{root_list}
 use Rattle.counting.specs.Places.{place_of}
 use Rattle.counting.specs.Graph.{children_in, buffers_in}
-use Rattle.recount.specs.declared.Walk.{Walk}
-use Rattle.recount.specs.declared.Walk.TheVariants.{Done}
 
 abbrev pub ways_in : List ℕ → ℕ → ℕ
 ways_in tree u = sums (total (children_in tree) (is u) longest) (root_list (get_or tree 0 0))
@@ -27,6 +27,8 @@ pub record Counts (tree counts : List ℕ) : Type 0 where
   pub ways : (u : ℕ) → u ≤ last_unit → get_or counts u 0 ≡ ways_in tree u
   pub places : (b : ℕ) → b ≤ last_unit → get_or counts (place_of b) 0 ≡ places_in tree b
 
-pub record Recounted (tree counts : List ℕ) (r : Walk) : Type 0 where
-  pub whether : (r ≡ Done) ↔ Fits tree
-  pub right : r ≡ Done → Counts tree counts
+-- done just when every count fits, and refused for that alone; done, the counts are these
+pub record Recounted (tree counts : List ℕ) (r : Result (Unit {0}) Refusal) : Type 0 where
+  pub whether : IsOk r ↔ Fits tree
+  pub refused : IsOkUnless r RecountTooHigh
+  pub right : OnOk r (Counts tree counts)

@@ -1,13 +1,13 @@
 -- What a walk counts: the visits one after the other, at each visit the node and its buffers, and at each of these one more.
 -- Assumes nothing.
-use Rattle.std.specs.Prelude.{cond, ◌≡◌, List, [], ◌∷◌, ℕ, ◌+◌, ltb, get_or, set}
+use Rattle.std.specs.Prelude.{cond, ◌≡◌, Result, Ok, Err, List, [], ◌∷◌, ℕ, ◌+◌, ltb, get_or, set}
 use Rattle.std.proofs.Math.Option.{Option, none, some}
 use Rattle.units.specs.Limits.{most_count}
+use Rattle.units.specs.declared.Refusal.{Refusal}
+use Rattle.units.specs.declared.Refusal.TheVariants.{RecountTooHigh}
 use Rattle.ways.specs.Ways.{flat}
 use Rattle.counting.specs.Places.{place_of}
 use Rattle.counting.specs.Graph.{buffers_in}
-use Rattle.recount.specs.declared.Walk.{Walk}
-use Rattle.recount.specs.declared.Walk.TheVariants.{Done, Over}
 
 -- one more at each place of a list; none where a count would pass 65,535
 unfoldable pub counted : List ℕ → List ℕ → Option (List ℕ)
@@ -26,6 +26,6 @@ abbrev pub counts_of : List ℕ → List ℕ → List ℕ
 counts_of tree us = flat (visit_of tree) us
 
 -- the answer, and the counts where all fit
-abbrev pub Outcome : Option (List ℕ) → List ℕ → Walk → Type 0
-Outcome none counts r = r ≡ Over
-Outcome (some l) counts r = (r ≡ Done) × (counts ≡ l)
+abbrev pub Outcome : Option (List ℕ) → List ℕ → Result (Unit {0}) Refusal → Type 0
+Outcome none counts r = r ≡ Err RecountTooHigh
+Outcome (some l) counts r = (r ≡ Ok tt) × (counts ≡ l)

@@ -8,112 +8,83 @@ ghost use Rattle.counting.specs.Graph.{children_in};
 ghost use Rattle.recount.specs.Walks.{Outcome, counted, places_of, visit_of, counts_of};
 ghost use Rattle.recount.specs.Recounts.{Recounted};
 
-use units::{BranchRoot, Count, NodeUnit};
-
-// Where the branches' counts begin.
-const PLACES: usize = 256;
+use units::{BranchRoot, NodeUnit, Refusal};
 
 // Nodes on a way.
 const LONGEST: u8 = 8;
 
-// Over: some count would pass 65,535, and then the counts are of no use.
-#[derive(Clone, Copy)]
-pub enum Walk {
-    Done,
-    Over,
-}
-
-fn count_one(counts: &mut [u16; 512], at: usize) -> Walk
+// One more at a place, where the count has not reached 65,535.
+fn count_one(counts: &mut [u16; 512], at: usize) -> Result<(), Refusal>
     requires { at < 512 }
     ensures { Outcome (counted counts.old (at ∷ [])) counts.new result }
 {
-    let c = counts[at];
-    if c < Count::MOST {
-        counts[at] = c + 1;
-        return Walk::Done;
-    }
-    Walk::Over
+    counts[at] = counts[at].checked_add(1).ok_or(Refusal::RecountTooHigh)?;
+    Ok(())
 }
 
 // One more place for each of the buffers.
-fn count_buffers(counts: &mut [u16; 512], buffers: [u8; 8], number: u8) -> Walk
+fn count_buffers(counts: &mut [u16; 512], buffers: [u8; 8], number: u8) -> Result<(), Refusal>
     ensures { Outcome (counted counts.old (places_of (take number buffers))) counts.new result }
 {
-    let end = counting::up_to(number);
-    let mut i = 0;
-    while i < end {
-        let branch = BranchRoot(buffers[i]);
-        let one = count_one(counts, PLACES + branch.index());
-        match one {
-            Walk::Done => i += 1,
-            Walk::Over => return Walk::Over,
-        }
+    for &b in counting::part(&buffers, 0, number) {
+        count_one(counts, counting::PLACES + BranchRoot(b).index())?;
     }
-    Walk::Done
+    Ok(())
 }
 
 // A visit of one node: one way more to it, and one place more for each of its buffers.
-fn count_node(tree: &[u8; 6656], counts: &mut [u16; 512], u: NodeUnit) -> Walk
+fn count_node(tree: &[u8; 6656], counts: &mut [u16; 512], u: NodeUnit) -> Result<(), Refusal>
     ensures { Outcome (counted counts.old (visit_of tree.now u.0)) counts.new result }
 {
-    let at = u.0 as usize;
-    let way = count_one(counts, at);
-    match way {
-        Walk::Done => {
-            let n = counting::read_node(tree, u);
-            let buffers = n.buffers;
-            count_buffers(counts, buffers, n.buffer_number)
-        }
-        Walk::Over => Walk::Over,
-    }
+    count_one(counts, u.index())?;
+    let n = counting::read_node(tree, u);
+    count_buffers(counts, n.buffers, n.buffer_number)
 }
 
 // The node and all below it, as far down as the depth.
 #[cycle(walk_children_walk_node)]
-pub fn walk_node(tree: &[u8; 6656], counts: &mut [u16; 512], u: NodeUnit, depth: u8) -> Walk
+pub fn walk_node(
+    tree: &[u8; 6656],
+    counts: &mut [u16; 512],
+    u: NodeUnit,
+    depth: u8,
+) -> Result<(), Refusal>
     ensures { Outcome (counted counts.old (counts_of tree.now (visits (children_in tree.now) depth u.0))) counts.new result }
 {
     if depth == 0 {
-        return Walk::Done;
+        return Ok(());
     }
-    let w = count_node(tree, counts, u);
-    match w {
-        Walk::Done => {
-            let n = counting::read_node(tree, u);
-            let end = counting::up_to(n.child_number);
-            let children = n.children;
-            walk_children(tree, counts, &children[..end], depth - 1)
-        }
-        Walk::Over => Walk::Over,
-    }
+    count_node(tree, counts, u)?;
+    let n = counting::read_node(tree, u);
+    let children = counting::part(&n.children, 0, n.child_number);
+    walk_children(tree, counts, children, depth - 1)
 }
 
 // A child that stands there twice is visited twice.
 #[cycle(walk_children_walk_node)]
-fn walk_children(tree: &[u8; 6656], counts: &mut [u16; 512], children: &[u8], depth: u8) -> Walk
+fn walk_children(
+    tree: &[u8; 6656],
+    counts: &mut [u16; 512],
+    children: &[u8],
+    depth: u8,
+) -> Result<(), Refusal>
     ensures { Outcome (counted counts.old (counts_of tree.now (flat (visits (children_in tree.now) depth) children.now))) counts.new result }
 {
-    if children.len() == 0 {
-        return Walk::Done;
-    }
-    let first = NodeUnit(children[0]);
-    let w = walk_node(tree, counts, first, depth);
-    match w {
-        Walk::Done => walk_children(tree, counts, &children[1..], depth),
-        Walk::Over => Walk::Over,
-    }
+    let Some((&first, rest)) = children.split_first() else {
+        return Ok(());
+    };
+    walk_node(tree, counts, NodeUnit(first), depth)?;
+    walk_children(tree, counts, rest, depth)
 }
 
-// The counts that the tree has, in place of what stood there.
-pub fn recount(tree: &[u8; 6656], counts: &mut [u16; 512]) -> Walk
+// The counts that the tree has, in place of what stood there. Refused, what stands there is of no use.
+pub fn recount(tree: &[u8; 6656], counts: &mut [u16; 512]) -> Result<(), Refusal>
     ensures { Recounted tree.now counts.new result }
 {
-    records::bytes(tree);
-    *counts = [0u16; 512];
+    *counts = [0; 512];
     let root = counting::root(tree);
-    let unit = root.0;
-    if unit == 0 {
-        return Walk::Done;
+    if root.is_none() {
+        return Ok(());
     }
     walk_node(tree, counts, root, LONGEST)
 }

@@ -3,4 +3,4 @@ use Rattle.held_map.proofs.has.Goals as goal
 
 pub returns : goal.returns
 unfolding held_in
-returns c = c.bit_at.ensures
+returns c = rw (← c.from.ensures) c.bit_at.ensures

@@ -3,4 +3,4 @@ use Rattle.held_map.proofs.hold.Goals as goal
 
 pub returns : goal.returns
 unfolding mark
-returns c = rw c.with_bit-w.ensures
+returns c = rw (c.with_bit.ensures, c.from-i.ensures)

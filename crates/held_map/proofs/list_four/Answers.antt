@@ -1,24 +1,18 @@
-use Rattle.std.proofs.Common.{arith}
-use Rattle.held_map.proofs.Lists.{four_length, four_in}
+use Rattle.std.proofs.Common.{◌≡◌, arith, refl}
+use Rattle.held_map.proofs.Lists.{four_room, four_turn, four_end}
 use Rattle.held_map.proofs.list_four.Goals as goal
 
-pub list_word-a-requires : goal.list_word-a-requires
-list_word-a-requires c = (omega arith, omega (arith, four_length c.args.words))
+pub loop-i-init : goal.loop-i-init
+loop-i-init c = record { list = refl; next = refl }
 
-pub list_word-b-requires : goal.list_word-b-requires
-list_word-b-requires c = (omega arith, omega (arith, four_length c.args.words))
+pub list_word-n-requires : goal.list_word-n-requires
+list_word-n-requires c = (omega arith, omega (arith, c.loop-i.invariant.next, four_room c.args.words c.loop-i.i c.loop-i-test.true))
 
-pub list_word-c-requires : goal.list_word-c-requires
-list_word-c-requires c = (omega arith, omega (arith, four_length c.args.words))
-
-pub list_word-requires : goal.list_word-requires
-list_word-requires c = (omega arith, omega (arith, four_length c.args.words))
+pub loop-i-preserved : goal.loop-i-preserved
+loop-i-preserved c = four_turn c.loop-i.invariant c.list_word-n.ensures.list c.list_word-n.ensures.next
 
 pub returns : goal.returns
 returns c =
-    let a = c.list_word-a.ensures in
-    let b = c.list_word-b.ensures in
-    let d = c.list_word-c.ensures in
-    let e = c.list_word.ensures in
-    let r = four_in c.args.out.now c.args.words a.list a.next b.list b.next d.list d.next e.list e.next in
+    let n : c.loop-i.i ≡ 4 = omega arith in
+    let r = four_end c.loop-i.invariant n in
     record { list = r.0; next = r.1 }

@@ -1,39 +1,19 @@
-use Rattle.std.proofs.Common.{sym, ◌∙◌, arith}
-use native.Mathlib.Nat.{zero-add}
-use Rattle.held_map.proofs.Lowest.{ones_none, ones_first, ones_more, lowest_word, all_words}
+use Rattle.std.proofs.Common.{◌≡◌, ◌∙◌, arith}
+use Rattle.held_map.proofs.Lowest.{word_from1, first_word, other_word, lowest_word, all_words}
 use Rattle.held_map.proofs.lowest_free.Goals as goal
+use Rattle.held_map.proofs.lowest_free.Goals.{then-i-eq0, else-i-eq0}
 
-pub returns-then-a-lt64 : goal.returns-then-a-lt64
-returns-then-a-lt64 c =
+pub returns-then-zero-lt64 : goal.returns-then-zero-lt64
+returns-then-zero-lt64 c =
     let m = c.args.map.now in
-    sym (zero-add c.lowest_zero-a.result)
-    ∙ lowest_word m 0 (omega arith) (ones_none m) (ones_first m c.with_bit-w.ensures c.lowest_zero-a.ensures) c.if-a-lt64.true
-
-pub returns-then-b-lt64 : goal.returns-then-b-lt64
-returns-then-b-lt64 c =
-    let m = c.args.map.now in
-    let o1 = ones_more m 0 (ones_none m) (ones_first m c.with_bit-w.ensures c.lowest_zero-a.ensures) c.if-a-lt64.false in
-    lowest_word m 1 (omega arith) o1 c.lowest_zero-b.ensures c.if-b-lt64.true
-
-pub returns-then-c-lt64 : goal.returns-then-c-lt64
-returns-then-c-lt64 c =
-    let m = c.args.map.now in
-    let o1 = ones_more m 0 (ones_none m) (ones_first m c.with_bit-w.ensures c.lowest_zero-a.ensures) c.if-a-lt64.false in
-    let o2 = ones_more m 1 o1 c.lowest_zero-b.ensures c.if-b-lt64.false in
-    lowest_word m 2 (omega arith) o2 c.lowest_zero-c.ensures c.if-c-lt64.true
-
-pub returns-then-d-lt64 : goal.returns-then-d-lt64
-returns-then-d-lt64 c =
-    let m = c.args.map.now in
-    let o1 = ones_more m 0 (ones_none m) (ones_first m c.with_bit-w.ensures c.lowest_zero-a.ensures) c.if-a-lt64.false in
-    let o2 = ones_more m 1 o1 c.lowest_zero-b.ensures c.if-b-lt64.false in
-    let o3 = ones_more m 2 o2 c.lowest_zero-c.ensures c.if-c-lt64.false in
-    lowest_word m 3 (omega arith) o3 c.lowest_zero-d.ensures c.if-d-lt64.true
+    let i = c.loop-i.i in
+    let word : c.if-i-eq0.word ≡ word_from1 m i = elim c.if-i-eq0.branch [
+      | then-i-eq0 w ↦ first_word m i c.if-i-eq0.word w.if-i-eq0.true (w.word-is ∙ w.with_bit-word.ensures)
+      | else-i-eq0 w ↦ other_word m i c.if-i-eq0.word w.if-i-eq0.false w.word-is
+    ] in
+    lowest_word m i c.loop-i-test.true c.loop-i.invariant (rw word at c.lowest_zero-zero.ensures) c.if-zero-lt64.true
 
 pub returns : goal.returns
 returns c =
-    let m = c.args.map.now in
-    let o1 = ones_more m 0 (ones_none m) (ones_first m c.with_bit-w.ensures c.lowest_zero-a.ensures) c.if-a-lt64.false in
-    let o2 = ones_more m 1 o1 c.lowest_zero-b.ensures c.if-b-lt64.false in
-    let o3 = ones_more m 2 o2 c.lowest_zero-c.ensures c.if-c-lt64.false in
-    all_words m (ones_more m 3 o3 c.lowest_zero-d.ensures c.if-d-lt64.false)
+    let n : 4 ≡ c.loop-i.i = omega arith in
+    all_words c.args.map.now (rw n c.loop-i.invariant)

@@ -1,15 +1,18 @@
-use Rattle.recount.proofs.Turns.{buffers_turn, buffers_over, buffers_end}
+use Rattle.recount.proofs.Turns.{passed, buffers_turn, buffers_over, buffers_end}
 use Rattle.recount.proofs.count_buffers.Goals as goal
 
-pub loop-i-preserved : goal.loop-i-preserved
-loop-i-preserved c =
-    buffers_turn c.count_one-one.new.counts c.count_one-one.result c.loop-i.invariant c.loop-i-test.true
-    (rw c.index.ensures.0 at c.count_one-one.ensures) c.in-Done.is
+pub returns-in_err-count_one : goal.returns-in_err-count_one
+returns-in_err-count_one c =
+    buffers_over c.args.number c.args.buffers c.part-b-items.result.now c.args.counts.now c.loop-b.counts c.count_one.new.counts c.loop-b.b-index
+    c.part-b-items.ensures c.loop-b-test.true c.loop-b.invariant (rw c.index.ensures.0 at c.in_err-count_one.ensures)
+    (passed c.from_residual.result _ c.from_residual.ensures)
 
-pub returns-in-Over : goal.returns-in-Over
-returns-in-Over c =
-    buffers_over c.args.number c.count_one-one.new.counts c.count_one-one.result c.loop-i.invariant c.loop-i-test.true
-    (rw c.index.ensures.0 at c.count_one-one.ensures) c.in-Over.is c.up_to-end.ensures.1
+pub loop-b-preserved : goal.loop-b-preserved
+loop-b-preserved c =
+    buffers_turn c.part-b-items.result.now c.args.counts.now c.loop-b.counts c.count_one.new.counts c.loop-b.b-index c.loop-b-test.true c.loop-b.invariant
+    (rw c.index.ensures.0 at c.in_ok-count_one.ensures)
 
 pub returns : goal.returns
-returns c = buffers_end c.args.number c.loop-i.invariant c.loop-i-test.false c.up_to-end.ensures.1
+returns c =
+    buffers_end c.args.number c.args.buffers c.part-b-items.result.now c.args.counts.now c.loop-b.counts c.loop-b.b-index c.part-b-items.ensures
+    c.loop-b-test.false c.loop-b.invariant
