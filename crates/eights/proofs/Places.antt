@@ -123,5 +123,9 @@ replaced_back l gone =
     let e : 0 + gone ≡ gone = omega arith in
     rw e
 
+-- a list that comes before eight zeros
+pub poured_eight : (come : List ℕ) → eight (replaced (replicate 8 0) 0 0 come) ≡ eight come
+poured_eight come = alike_eight (come ++ replicate 8 0) come (λ j. alike_behind come (replicate 8 0) [] (eight_alike [] (omega arith)) j ∙ ap (λ (l : List ℕ). get_or l j 0) (append-nil come))
+
 pub replaced_set : (l : List ℕ) (at v : ℕ) → at < length l → replaced l at 1 (v ∷ []) ≡ set l at v
 replaced_set l at v h = rw add-one (sym (set_split l at v h))

@@ -1,10 +1,10 @@
-// Eight places by value, as a node or an input has them: a run of them replaced, each of them mapped, the first of them tested.
+// Eight places by value, as a node or an input has them: a run of them replaced, each of them mapped or tested.
 // The places that are not used are 0.
 #![tactic(auto)]
 
-ghost use Rattle.std.specs.Prelude.{◌+◌, ◌-◌, ◌<◌, ◌≤◌, ◌≡◌, [], ◌∷◌, map, leb, get_or, take};
+ghost use Rattle.std.specs.Prelude.{◌+◌, ◌-◌, ◌<◌, ◌≤◌, ◌≡◌, map, leb, get_or};
 ghost use Rattle.records.specs.Rows.{eight};
-ghost use Rattle.rules.specs.Tables.{all, eqs};
+ghost use Rattle.rules.specs.Tables.{all};
 ghost use Rattle.rules.specs.Steps.{moved};
 ghost use Rattle.counting.specs.Places.{up_to};
 ghost use Rattle.eights.specs.Eights.{replaced, number_after};
@@ -42,43 +42,25 @@ pub fn place(xs: [u8; 8], at: usize) -> u8
     xs.get(at).copied().unwrap_or(0)
 }
 
-pub fn none() -> [u8; 8]
-    ensures { result ≡ eight [] }
-{
-    [0u8; 8]
-}
-
-pub fn one(v: u8) -> [u8; 8]
-    ensures { result ≡ eight (v ∷ []) }
-{
-    [v, 0, 0, 0, 0, 0, 0, 0]
-}
-
-pub fn two(v: u8, w: u8) -> [u8; 8]
-    ensures { result ≡ eight (v ∷ w ∷ []) }
-{
-    [v, w, 0, 0, 0, 0, 0, 0]
-}
-
-// The place j of eight in which `gone` go from `at` on and the first `number` of `come` come.
-fn replace_place(xs: [u8; 8], at: u8, gone: u8, come: [u8; 8], number: u8, j: usize) -> u8
+// The place j of eight in which `gone` go from `at` on and `come` comes.
+fn replace_place(xs: [u8; 8], at: u8, gone: u8, come: &[u8], j: usize) -> u8
     requires { j < 8 }
-    ensures { result ≡ get_or (replaced xs at gone (take number come)) j 0 }
+    ensures { result ≡ get_or (replaced xs at gone come.now) j 0 }
 {
     let start = at as usize;
     if j < start {
         return place(xs, j);
     }
-    if j < start + number as usize {
-        return place(come, j - start);
+    if j < start + come.len() {
+        return come[j - start];
     }
-    place(xs, j - number as usize + gone as usize)
+    place(xs, j - come.len() + gone as usize)
 }
 
-pub fn replace(xs: [u8; 8], at: u8, gone: u8, come: [u8; 8], number: u8) -> [u8; 8]
-    ensures { result ≡ eight (replaced xs at gone (take number come)) }
+pub fn replace(xs: [u8; 8], at: u8, gone: u8, come: &[u8]) -> [u8; 8]
+    ensures { result ≡ eight (replaced xs at gone come.now) }
 {
-    std::array::from_fn(|j| replace_place(xs, at, gone, come, number, j))
+    std::array::from_fn(|j| replace_place(xs, at, gone, come, j))
 }
 
 // A place that is not used stays 0, as it is not above `by`.
@@ -97,17 +79,9 @@ pub fn move_offsets(xs: [u8; 8], start: u8, end: u8) -> [u8; 8]
 
 // ---- tests
 
-// Whether each of the first `number` is at least `low`.
-pub fn at_least(xs: [u8; 8], number: u8, low: u8) -> bool
-    ensures { result ≡ all (λ o. leb low o) (take number xs) }
+// Whether each is at least `low`.
+pub fn at_least(xs: &[u8], low: u8) -> bool
+    ensures { result ≡ all (λ o. leb low o) xs.now }
 {
-    xs.iter().take(number as usize).all(|&o| low <= o)
-}
-
-// Whether the first `number` of both are the same.
-pub fn same(xs: [u8; 8], ys: [u8; 8], number: u8) -> bool
-    ensures { result ≡ eqs (take number xs) (take number ys) }
-{
-    let end = (number as usize).min(8);
-    xs[..end] == ys[..end]
+    xs.iter().all(|&o| low <= o)
 }

@@ -7,7 +7,7 @@ use mathlib.Core.Option.{Option, none, some}
 use Prim.Native.Nat.{ℕ, zero, suc, ◌-◌, ◌≤◌, ◌<◌}
 use native.Mathlib.Omega.{arith}
 use lib.Dec.{T, eqb, leb, ltb, leb→le}
-use lib.ListN.{length, get_or, set, take, drop, length-take, length-drop, length-set}
+use lib.ListN.{length, get_or, set, take, drop, length-drop, length-set}
 use lib.Seq.{length-take-le}
 use borrow.Author.Tests.{ltb-true, le-ltb, eqb-true}
 use Rattle.units.specs.Limits.{last_unit, room, compactor_count}
@@ -27,7 +27,7 @@ use Rattle.right.proofs.Steps.{Even, passed, change_right}
 use Rattle.right.proofs.After.{after_inputs, after_branches}
 use Rattle.right.proofs.Still.{ended_branches}
 use Rattle.lines.specs.Lines.{tests_of, Agree}
-use Rattle.records.specs.Rows.{eight}
+use Rattle.records.specs.Rows.{eight, eight_slice}
 use Rattle.counting.specs.declared.Node.{Node}
 use Rattle.counting.specs.Nodes.{node_in, coded}
 use Rattle.counting.proofs.Counts.{Low}
@@ -40,8 +40,6 @@ use Rattle.state.specs.Standing.{CountsAre}
 use Rattle.state.specs.Stands.{Arrays, Stands}
 use Rattle.state.proofs.Maps.{map_same}
 use Rattle.state.proofs.Changes.{zero_free, map_after}
-use Rattle.eights.specs.Eights.{replaced}
-use Rattle.eights.proofs.Places.{eight_take, replaced_eight, replaced_front, replaced_back}
 use Rattle.shapes.specs.Ends.{Fits, sound_fits}
 use Rattle.shapes.specs.Questions.{part_fits}
 use Rattle.shapes.proofs.Questions.{part_fits_lem}
@@ -52,31 +50,13 @@ use Rattle.allocation.proofs.Swept.{Few, sweep_hold_eight, sweep_map_eight}
 use Rattle.quiet.specs.Inputs.{is_busy, is_idle, part_of, begin_target, begin_shape, begin_tests, begin_hold, abort_tests, abort_hold, abort_map}
 use Rattle.quiet.proofs.Quiet.{low_of, quiet_fit, quiet_counts, quiet_stands, branches_stay, held_now}
 
--- what the code makes of a node's buffers
-pub part_made : (n : Node) (start end number : ℕ) (later roots : List ℕ) → later ≡ eight (replaced n.buffers 0 start []) → number ≡ end - start
-    → roots ≡ eight (replaced later number room []) → record { number = number; roots = roots } ≡ part_of n start end
-unfolding part_of
-part_made n start end number later roots el en er = rw (er, en, el) refl
-
 -- the buffers of a node of the rules, from a place up to another
-part_coded : (n : Rattle.rules.specs.Store.Node) → Fits n → (from to : ℕ) → to ≤ length n.buffers → part_of (coded n) from to ≡ coded_input (slice from (to - from) n.buffers)
+part_coded : (n : Rattle.rules.specs.Store.Node) → Fits n → (from to : ℕ) → from ≤ to → to ≤ length n.buffers → part_of (coded n) from to ≡ coded_input (slice from (to - from) n.buffers)
 unfolding part_of
-part_coded n f from to h = ap₂ (λ (c : ℕ) (l : List ℕ). record { number = c; roots = l }) count roots
+part_coded n f from to p h = ap₂ (λ (c : ℕ) (l : List ℕ). record { number = c; roots = eight l }) count (eight_slice n.buffers from to f.few_buffers p h)
   where
     count : to - from ≡ length (slice from (to - from) n.buffers)
     count = sym (length-take-le (to - from) (drop from n.buffers) (omega (arith, length-drop from n.buffers)))
-
-    later : eight (replaced (eight n.buffers) 0 from []) ≡ eight (drop from n.buffers)
-    later = replaced_eight n.buffers 0 from [] f.few_buffers (omega arith) ∙ ap eight (replaced_back n.buffers from)
-
-    roots : eight (replaced (eight (replaced (eight n.buffers) 0 from [])) (to - from) room []) ≡ eight (slice from (to - from) n.buffers)
-    roots =
-        ap eight (replaced_front (eight (replaced (eight n.buffers) 0 from [])) (to - from) ∙ ap (take (to - from)) later
-        ∙ eight_take (drop from n.buffers) (to - from) (omega (arith, length-drop from n.buffers, f.few_buffers)) (omega (arith, length-drop from n.buffers)))
-
--- the used part of a body's indexes is within them
-pub used_fits : (body : List ℕ) (k : ℕ) → length body ≡ 11 → k ≤ indexes → k ≡ length (take k (slice 2 indexes body))
-used_fits body k h q = sym (length-take-le k (slice 2 indexes body) (omega (arith, length-take indexes (drop 2 body), length-drop 2 body)))
 
 -- a unit of a branch is owned
 branch_owned : (s : Store) (b v : ℕ) → T (has b units) → T (has v (units_of s b)) → T (has v (owned s))
@@ -240,8 +220,9 @@ module _ (s : Store) (r : Right s) (a : Arrays) (st : Stands s a) where
         let h : begin_shape body ≡ true = T→eq (begin_shape body) ok.shape in
         let l : leads s path ≡ true = T→eq (leads s path) ok.path in
         let q : k < compactor_count = slot_of h in
+        let begins : from ≤ to = omega (arith, ltb-true from to (T→eq (ltb from to) (and_l (ltb from to) (leb to (length bs)) ok.range))) in
         let end : to ≤ length bs = leb→le to (length bs) (and_r (ltb from to) (leb to (length bs)) ok.range) in
-        let made : part_of (node_in a.tree (unit_of (begin_target a.tree body))) from to ≡ coded_input part = ap (λ (n : Node). part_of n from to) (node_at_lem h l) ∙ part_coded (node_at s unit) (sound_fits s r.sound unit) from to end in
+        let made : part_of (node_in a.tree (unit_of (begin_target a.tree body))) from to ≡ coded_input part = ap (λ (n : Node). part_of n from to) (node_at_lem h l) ∙ part_coded (node_at s unit) (sound_fits s r.sound unit) from to begins end in
         let up : (b : ℕ) → T (in_use s.inputs b) → T (in_use (set s.inputs k part) b) = λ b t. begun_used b k part s.inputs (no_roots (input_at s k) ok.slot) t in
         rw made
         (quiet_stands s r a st m tt s' e refl refl refl refl (put_input a.hold k (coded_input part)) a.map

@@ -1,7 +1,7 @@
 -- Compact begin and compact abort on the lists of the lent arrays: their tests of the lines 4 to 12, and what they leave.
 -- Assumes nothing.
 use Rattle.std.specs.Prelude.{Bool, true, ◌&&◌, not, List, [], ◌∷◌, ℕ, ◌-◌, eqb, ltb, get_or, take}
-use Rattle.units.specs.Limits.{room, compactor_count}
+use Rattle.units.specs.Limits.{compactor_count}
 use Rattle.units.specs.Bodies.{indexes}
 use Rattle.rules.specs.Tables.{slice}
 use Rattle.rules.specs.Steps.{path_shape}
@@ -11,7 +11,6 @@ use Rattle.counting.specs.Nodes.{node_in}
 use Rattle.path.specs.declared.Found.{Found}
 use Rattle.tables.specs.declared.Input.{Input}
 use Rattle.tables.specs.Hold.{input_in, put_input, coded_input}
-use Rattle.eights.specs.Eights.{replaced}
 use Rattle.shapes.specs.Questions.{part_fits}
 use Rattle.bodies.specs.Bodies.{used_of, target_in, unit_of, is_found}
 use Rattle.allocation.specs.Sweep.{sweep_hold, sweep_map}
@@ -27,7 +26,7 @@ is_idle x = eqb x.number 0
 -- the buffers from `start` up to `end`
 unfoldable pub part_of : Node → ℕ → ℕ → Input
 part_of n start end =
-    record { number = end - start; roots = eight (replaced (eight (replaced n.buffers 0 start [])) (end - start) room []) }
+    record { number = end - start; roots = eight (slice start (end - start) n.buffers) }
 
 -- ---- 8 compact begin; the body is compactor, depth, indexes, start, end
 

@@ -1,5 +1,5 @@
 -- Take, seal and abandon on the lists of the lent arrays: their tests of the lines 4 to 12, and what they leave. Assumes nothing.
-use Rattle.std.specs.Prelude.{Bool, true, ◌&&◌, not, List, [], ◌∷◌, ℕ, eqb, leb, ltb, take}
+use Rattle.std.specs.Prelude.{Bool, true, ◌&&◌, not, List, [], ◌∷◌, ℕ, eqb, leb, ltb}
 use Rattle.units.specs.Limits.{room, slot_count}
 use Rattle.rules.specs.Store.{empty}
 use Rattle.held_map.specs.Map.{clears}
@@ -45,7 +45,7 @@ seal_hold hold k n = put_slot hold k (sealed_slot (slot_in hold k) n)
 
 -- the units behind the first n go
 unfoldable pub seal_map : List ℕ → List ℕ → ℕ → ℕ → List ℕ
-seal_map hold map k n = clears map (eight (replaced (slot_in hold k).units 0 n (take 0 (eight []))))
+seal_map hold map k n = clears map (eight (replaced (slot_in hold k).units 0 n []))
 
 -- ---- 3 abandon
 

@@ -95,9 +95,7 @@ pub fn seal(hold: &mut [u8; 2380], map: &mut [u64; 4], slot: u8, keep: u8)
 {
     let k = UnfinishedSlot(slot);
     let x = tables::read_slot(hold, k);
-    let us = x.units;
-    let none = eights::none();
-    let gone = eights::replace(us, 0, keep, none, 0);
+    let gone = eights::replace(x.units, 0, keep, &[]);
     let y = tables::sealed_to(x, keep);
     tables::write_slot(hold, k, y);
     held_map::release_eight(map, gone);
@@ -144,11 +142,9 @@ fn is_idle(x: Input) -> bool
 fn part_of(n: Node, start: u8, end: u8) -> Input
     ensures { result ≡ part_of n start end }
 {
-    let buffers = n.buffers;
-    let none = eights::none();
-    let later = eights::replace(buffers, 0, start, none, 0);
     let number = end.saturating_sub(start);
-    let roots = eights::replace(later, number, 8, none, 0);
+    let part = counting::part(&n.buffers, start, end);
+    let roots = eights::replace([0; 8], 0, 0, part);
     Input { number, roots }
 }
 

@@ -1,5 +1,5 @@
 -- The nodes that code makes of nodes of the rules are the nodes that the rules name. Assumes nothing.
-use mathlib.Core.Path.{◌≡◌, refl, ap, ◌∙◌}
+use mathlib.Core.Path.{◌≡◌, ap, ◌∙◌}
 use mathlib.Core.List.{List, [], ◌∷◌, ◌++◌}
 use Prim.Native.Nat.{ℕ, ◌+◌, ◌-◌, ◌≤◌, ◌<◌}
 use native.Mathlib.Omega.{arith}
@@ -18,34 +18,33 @@ use Rattle.shapes.specs.Shapes.{replace_buffers, replace_children, with_buffer, 
 -- ---- lists of a node
 
 module _ (n : Node) (f : Fits n) where
-  pub buffers_replaced : (at gone : ℕ) (come : List ℕ) → at ≤ length n.buffers → length come ≤ 8 → length (replaced n.buffers at gone come) ≤ 8
-      → replace_buffers (coded n) at gone (eight come) (length come) ≡ coded (buffers_are n (replaced n.buffers at gone come))
+  pub buffers_replaced : (at gone : ℕ) (come : List ℕ) → at ≤ length n.buffers → length (replaced n.buffers at gone come) ≤ 8
+      → replace_buffers (coded n) at gone come ≡ coded (buffers_are n (replaced n.buffers at gone come))
   unfolding replace_buffers
-  buffers_replaced at gone come p q h =
-      rw (eight_all come q, replaced_eight n.buffers at gone come f.few_buffers p, number_replaced n.buffers at gone come p h)
+  buffers_replaced at gone come p h =
+      rw (replaced_eight n.buffers at gone come f.few_buffers p, number_replaced n.buffers at gone come p h)
 
-  pub children_replaced : (at gone : ℕ) (come with : List ℕ) → at ≤ length n.children → length come ≤ 8 → length with ≡ length come → length (replaced n.children at gone come) ≤ 8
-      → replace_children (coded n) at gone (eight come) (eight with) (length come) ≡ coded (children_are n (replaced n.children at gone come) (replaced n.offsets at gone with))
+  pub children_replaced : (at gone : ℕ) (come with : List ℕ) → at ≤ length n.children → length (replaced n.children at gone come) ≤ 8
+      → replace_children (coded n) at gone come with ≡ coded (children_are n (replaced n.children at gone come) (replaced n.offsets at gone with))
   unfolding replace_children
-  children_replaced at gone come with p q e h =
-      let w : take (length come) (eight with) ≡ with = rw (← e) (eight_all with (omega arith)) in
-      rw (eight_all come q, w, replaced_eight n.children at gone come f.few_children p, replaced_eight n.offsets at gone with (omega (arith, f.few_children, f.paired)) (omega (arith, f.paired)), number_replaced n.children at gone come p h)
+  children_replaced at gone come with p h =
+      rw (replaced_eight n.children at gone come f.few_children p, replaced_eight n.offsets at gone with (omega (arith, f.few_children, f.paired)) (omega (arith, f.paired)), number_replaced n.children at gone come p h)
 
   -- ---- nodes that come
 
   pub with_buffer_lem : (b : ℕ) → length n.buffers < 8 → with_buffer (coded n) b ≡ coded (buffer_last n b)
   with_buffer_lem b h =
       let e : replaced n.buffers (length n.buffers) 0 (b ∷ []) ≡ n.buffers ++ (b ∷ []) = replaced_last n.buffers (b ∷ []) in
-      buffers_replaced (length n.buffers) 0 (b ∷ []) (omega arith) (omega arith) (rw (e, length-append) (omega arith))
+      buffers_replaced (length n.buffers) 0 (b ∷ []) (omega arith) (rw (e, length-append) (omega arith))
       ∙ ap (λ (l : List ℕ). coded (buffers_are n l)) e
 
   -- one child, its offset o
   child_set_lem : (i u o : ℕ) → i < length n.children
-      → replace_children (coded n) i 1 (eight (u ∷ [])) (eight (o ∷ [])) 1 ≡ coded (children_are n (set n.children i u) (set n.offsets i o))
+      → replace_children (coded n) i 1 (u ∷ []) (o ∷ []) ≡ coded (children_are n (set n.children i u) (set n.offsets i o))
   child_set_lem i u o h =
       let e : replaced n.children i 1 (u ∷ []) ≡ set n.children i u = replaced_set n.children i u h in
       let w : replaced n.offsets i 1 (o ∷ []) ≡ set n.offsets i o = replaced_set n.offsets i o (omega (arith, f.paired)) in
-      children_replaced i 1 (u ∷ []) (o ∷ []) (omega arith) (omega arith) refl (rw (e, length-set) f.few_children)
+      children_replaced i 1 (u ∷ []) (o ∷ []) (omega arith) (rw (e, length-set) f.few_children)
       ∙ rw (e, w)
 
   pub offset_coded : (c : ℕ) → get_or (eight n.offsets) c 0 ≡ get_or n.offsets c 0
@@ -59,21 +58,21 @@ module _ (n : Node) (f : Fits n) where
       let o : ℕ = get_or n.offsets c 0 in
       let e : length (replaced n.children c 1 (l ∷ r ∷ [])) ≡ c + 2 + (length n.children - (c + 1)) = replaced_length n.children c 1 (l ∷ r ∷ []) (omega arith) in
       rw (offset_coded c)
-      (children_replaced c 1 (l ∷ r ∷ []) (o ∷ o ∷ []) (omega arith) (omega arith) refl (rw e (omega arith))
+      (children_replaced c 1 (l ∷ r ∷ []) (o ∷ o ∷ []) (omega arith) (rw e (omega arith))
       ∙ rw add-one)
 
   pub left_of_lem : (a : ℕ) → a ≤ length n.children → left_of (coded n) a ≡ coded (split_left n a)
   left_of_lem a h =
       let e : replaced n.children a (length n.children) [] ≡ take a n.children = replaced_front n.children a in
       let w : replaced n.offsets a (length n.children) [] ≡ take a n.offsets = rw (← f.paired) (replaced_front n.offsets a) in
-      children_replaced a (length n.children) [] [] h (omega arith) refl (rw (e, length-take-le a n.children h) (omega (arith, f.few_children)))
+      children_replaced a (length n.children) [] [] h (rw (e, length-take-le a n.children h) (omega (arith, f.few_children)))
       ∙ rw (e, w)
 
   pub right_of_lem : (a : ℕ) → right_of (coded n) a ≡ coded (split_right n a)
   right_of_lem a =
       let e : replaced n.children 0 a [] ≡ drop a n.children = replaced_back n.children a in
       let w : replaced n.offsets 0 a [] ≡ drop a n.offsets = replaced_back n.offsets a in
-      children_replaced 0 a [] [] (omega arith) (omega arith) refl (rw (e, length-drop) (omega (arith, f.few_children)))
+      children_replaced 0 a [] [] (omega arith) (rw (e, length-drop) (omega (arith, f.few_children)))
       ∙ rw (e, w)
 
   pub commit_node_lem : (a e b : ℕ) → a < e → e ≤ length n.buffers → commit_node (coded n) a e b ≡ coded (commit_target n a e b)
@@ -81,7 +80,7 @@ module _ (n : Node) (f : Fits n) where
   commit_node_lem a e b p q =
       let z : a + (e - a) ≡ e = omega arith in
       let h : length (replaced n.buffers a (e - a) (b ∷ [])) ≤ 8 = omega (arith, replaced_length n.buffers a (e - a) (b ∷ []) (omega arith), f.few_buffers) in
-      rw (buffers_replaced a (e - a) (b ∷ []) (omega arith) (omega arith) h, map_eight (moved a e) n.offsets (moved_none a e) (omega (arith, f.few_children, f.paired)), z)
+      rw (buffers_replaced a (e - a) (b ∷ []) (omega arith) h, map_eight (moved a e) n.offsets (moved_none a e) (omega (arith, f.few_children, f.paired)), z)
 
 -- ---- a flush
 
@@ -98,7 +97,7 @@ flush_parent_lem n f c gc g h =
     let e : replaced n.buffers 0 gc [] ≡ drop gc n.buffers = replaced_back n.buffers gc in
     rw (
       child_set_lem n f c g (length n.buffers) h,
-      buffers_replaced k fk 0 gc [] (omega arith) (omega arith) (rw (e, length-drop) (omega (arith, f.few_buffers))),
+      buffers_replaced k fk 0 gc [] (omega arith) (rw (e, length-drop) (omega (arith, f.few_buffers))),
       map_eight (λ o. o - gc) os (omega arith) (omega (arith, fk.few_children, fk.paired)),
       e,
     )
@@ -115,6 +114,6 @@ module _ (n : Node) (f : Fits n) (m : Node) (g : Fits m) (c : ℕ) where
       let o : ℕ = get_or n.offsets c 0 in
       let e : replaced m.buffers (length m.buffers) 0 (drop o n.buffers) ≡ m.buffers ++ drop o n.buffers = replaced_last m.buffers (drop o n.buffers) in
       let w : length (drop o n.buffers) ≡ length n.buffers - o = length-drop o n.buffers in
-      rw (gained_coded, offset_coded n f c, ← w)
-      (buffers_replaced m g (length m.buffers) 0 (drop o n.buffers) (omega arith) (omega (arith, f.few_buffers)) (rw (e, length-append) (omega arith))
+      rw (gained_coded, offset_coded n f c, ← w, eight_all (drop o n.buffers) (omega (arith, f.few_buffers)))
+      (buffers_replaced m g (length m.buffers) 0 (drop o n.buffers) (omega arith) (rw (e, length-append) (omega arith))
       ∙ ap (λ (l : List ℕ). coded (buffers_are m l)) e)

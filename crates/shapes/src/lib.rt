@@ -2,7 +2,7 @@
 // On nodes that are not right every function still ends within bounds.
 #![tactic(auto)]
 
-ghost use Rattle.std.specs.Prelude.{◌≡◌, get_or};
+ghost use Rattle.std.specs.Prelude.{◌≡◌, ◌≤◌, get_or, length};
 ghost use Rattle.counting.specs.Nodes.{coded};
 ghost use Rattle.shapes.specs.Ends.{over_root};
 ghost use Rattle.shapes.specs.Shapes.{
@@ -32,27 +32,29 @@ use units::{BranchRoot, NodeUnit};
 
 // ---- lists of a node
 
-// From `at` on, `gone` buffers go and the first `number` of `come` come.
+// From `at` on, `gone` buffers go and `come` comes.
 #[tactic(auto, unfolding(crate::specs::Shapes::replace_buffers))]
-fn replace_buffers(n: Node, at: u8, gone: u8, come: [u8; 8], number: u8) -> Node
-    ensures { result ≡ replace_buffers n at gone come number }
+fn replace_buffers(n: Node, at: u8, gone: u8, come: &[u8]) -> Node
+    requires { length come.now ≤ 8 }
+    ensures { result ≡ replace_buffers n at gone come.now }
 {
     Node {
-        buffer_number: eights::number_after(n.buffer_number, at, gone, number),
-        buffers: eights::replace(n.buffers, at, gone, come, number),
+        buffer_number: eights::number_after(n.buffer_number, at, gone, come.len() as u8),
+        buffers: eights::replace(n.buffers, at, gone, come),
         ..n
     }
 }
 
-// The same of the children with their offsets.
+// The same of the children with their offsets, one for each.
 #[tactic(auto, unfolding(crate::specs::Shapes::replace_children))]
-fn replace_children(n: Node, at: u8, gone: u8, come: [u8; 8], with: [u8; 8], number: u8) -> Node
-    ensures { result ≡ replace_children n at gone come with number }
+fn replace_children(n: Node, at: u8, gone: u8, children: &[u8], offsets: &[u8]) -> Node
+    requires { length children.now ≤ 8 }
+    ensures { result ≡ replace_children n at gone children.now offsets.now }
 {
     Node {
-        child_number: eights::number_after(n.child_number, at, gone, number),
-        children: eights::replace(n.children, at, gone, come, number),
-        offsets: eights::replace(n.offsets, at, gone, with, number),
+        child_number: eights::number_after(n.child_number, at, gone, children.len() as u8),
+        children: eights::replace(n.children, at, gone, children),
+        offsets: eights::replace(n.offsets, at, gone, offsets),
         ..n
     }
 }
@@ -70,7 +72,7 @@ pub fn offset_of(n: Node, c: u8) -> u8
 pub fn with_buffer(n: Node, b: BranchRoot) -> Node
     ensures { result ≡ with_buffer n b.0 }
 {
-    replace_buffers(n, n.buffer_number, 0, eights::one(b.0), 1)
+    replace_buffers(n, n.buffer_number, 0, &[b.0])
 }
 
 // A grow's root: over the old root, or a bare leaf where there is none.
@@ -80,11 +82,7 @@ pub fn over(r: NodeUnit) -> Node
     if r.0 == 0 {
         return Node::default();
     }
-    Node {
-        child_number: 1,
-        children: eights::one(r.0),
-        ..Node::default()
-    }
+    replace_children(Node::default(), 0, 0, &[r.0], &[0])
 }
 
 // A copy on the path: the child at place i is u.
@@ -92,7 +90,7 @@ pub fn with_child(n: Node, i: u8, u: NodeUnit) -> Node
     ensures { result ≡ with_child n i u.0 }
 {
     let offset = offset_of(n, i);
-    replace_children(n, i, 1, eights::one(u.0), eights::one(offset), 1)
+    replace_children(n, i, 1, &[u.0], &[offset])
 }
 
 // A split's target: left and right in the place of the child c, each with its offset.
@@ -100,28 +98,21 @@ pub fn split_parent(n: Node, c: u8, l: NodeUnit, r: NodeUnit) -> Node
     ensures { result ≡ split_parent n c l.0 r.0 }
 {
     let offset = offset_of(n, c);
-    replace_children(
-        n,
-        c,
-        1,
-        eights::two(l.0, r.0),
-        eights::two(offset, offset),
-        2,
-    )
+    replace_children(n, c, 1, &[l.0, r.0], &[offset, offset])
 }
 
 // The first a children of the child that is split.
 pub fn left_of(m: Node, a: u8) -> Node
     ensures { result ≡ left_of m a }
 {
-    replace_children(m, a, m.child_number, eights::none(), eights::none(), 0)
+    replace_children(m, a, m.child_number, &[], &[])
 }
 
 // The others.
 pub fn right_of(m: Node, a: u8) -> Node
     ensures { result ≡ right_of m a }
 {
-    replace_children(m, 0, a, eights::none(), eights::none(), 0)
+    replace_children(m, 0, a, &[], &[])
 }
 
 // A flush's target: the child c is g and has all buffers; then the first gc buffers go.
@@ -129,10 +120,10 @@ pub fn right_of(m: Node, a: u8) -> Node
 pub fn flush_parent(n: Node, c: u8, gc: u8, g: NodeUnit) -> Node
     ensures { result ≡ flush_parent n c gc g.0 }
 {
-    let flushed = replace_children(n, c, 1, eights::one(g.0), eights::one(n.buffer_number), 1);
+    let flushed = replace_children(n, c, 1, &[g.0], &[n.buffer_number]);
     Node {
         offsets: eights::lower(flushed.offsets, gc),
-        ..replace_buffers(flushed, 0, gc, eights::none(), 0)
+        ..replace_buffers(flushed, 0, gc, &[])
     }
 }
 
@@ -141,9 +132,9 @@ pub fn flush_child(n: Node, m: Node, c: u8) -> Node
     ensures { result ≡ flush_child n m c }
 {
     let offset = offset_of(n, c);
-    let gained = eights::replace(n.buffers, 0, offset, eights::none(), 0);
+    let gained = eights::replace(n.buffers, 0, offset, &[]);
     let number = n.buffer_number.saturating_sub(offset);
-    replace_buffers(m, m.buffer_number, 0, gained, number)
+    replace_buffers(m, m.buffer_number, 0, counting::part(&gained, 0, number))
 }
 
 // A commit's target: b in the place of the buffers from `start` up to `end`.
@@ -154,7 +145,7 @@ pub fn commit_node(n: Node, start: u8, end: u8, b: BranchRoot) -> Node
     let gone = end.saturating_sub(start);
     Node {
         offsets: eights::move_offsets(n.offsets, start, end),
-        ..replace_buffers(n, start, gone, eights::one(b.0), 1)
+        ..replace_buffers(n, start, gone, &[b.0])
     }
 }
 
@@ -177,8 +168,8 @@ pub fn split_share_fits(m: Node, a: u8) -> bool
 pub fn gc_fits(n: Node, c: u8, gc: u8) -> bool
     ensures { result ≡ gc_fits n c gc }
 {
-    let offsets = eights::replace(n.offsets, c, 1, eights::one(n.buffer_number), 1);
-    eights::at_least(offsets, n.child_number, gc) && gc <= n.buffer_number
+    let offsets = eights::replace(n.offsets, c, 1, &[n.buffer_number]);
+    eights::at_least(counting::part(&offsets, 0, n.child_number), gc) && gc <= n.buffer_number
 }
 
 #[tactic(auto, unfolding(crate::specs::Questions::part_fits))]
@@ -191,12 +182,14 @@ pub fn part_fits(n: Node, start: u8, end: u8) -> bool
 // ---- 8, the input of a commit
 
 // The buffers from `start` up to `end` are exactly the `number` roots of the input.
+// `number` is compared as it stands, also above eight, which a slice of the eight places cannot tell.
 #[tactic(auto, unfolding(crate::specs::Questions::part_is))]
 pub fn part_is(n: Node, start: u8, end: u8, number: u8, input: [u8; 8]) -> bool
     ensures { result ≡ part_is n start end number input }
 {
-    let part = eights::replace(n.buffers, 0, start, eights::none(), 0);
-    end.saturating_sub(start) == number && eights::same(part, input, number)
+    let part = eights::replace(n.buffers, 0, start, &[]);
+    end.saturating_sub(start) == number
+        && counting::part(&part, 0, number) == counting::part(&input, 0, number)
 }
 
 // ---- 9, the sizes

@@ -1,5 +1,7 @@
-use Rattle.quiet.proofs.Inputs.{part_made}
+use Rattle.eights.proofs.Places.{poured_eight}
+use Rattle.quiet.specs.Inputs.{part_of}
 use Rattle.quiet.proofs.part_of.Goals as goal
 
 pub returns : goal.returns
-returns c = part_made _ _ _ _ _ _ c.replace-later.ensures c.saturating_sub-number.ensures c.replace-roots.ensures
+unfolding part_of
+returns c = rw (c.saturating_sub-number.ensures, c.replace-roots.ensures, poured_eight c.part-part.result.now, c.part-part.ensures)
