@@ -8,7 +8,7 @@ ghost use Rattle.counting.specs.Graph.{children_in};
 ghost use Rattle.recount.specs.Walks.{Outcome, counted, places_of, visit_of, counts_of};
 ghost use Rattle.recount.specs.Recounts.{Recounted};
 
-use units::{BranchRoot, Count, NodeUnit};
+use units::{BranchRoot, Count, NodeUnit, Unit};
 
 // Where the branches' counts begin.
 const PLACES: usize = 256;
