@@ -1,17 +1,13 @@
-use Rattle.std.proofs.Common.{not, ap, arith}
-use Rattle.lines.proofs.Lines.{first_stop, first_on, first_end}
+use Rattle.std.proofs.Common.{rules, ◌≡◌, not, Some, None}
+use Rattle.std.specs.List.{position}
+use Rattle.lines.proofs.Lines.{line_at, line_none}
 use Rattle.lines.proofs.first_line.Goals as goal
 
-pub returns-then-not-passes : goal.returns-then-not-passes
-returns-then-not-passes c = first_stop c.args.tests c.loop-i.i (omega arith) c.loop-i.invariant.left (ap not c.if-not-passes.true)
+pub returns-in-Some : goal.returns-in-Some
+returns-in-Some c =
+    let p : position not c.args.tests ≡ Some c.in-Some.i = search rules in
+    let q = line_at c.args.tests c.in-Some.i p in
+    search rules
 
-pub loop-i-preserved : goal.loop-i-preserved
-loop-i-preserved c =
-    record {
-      within = omega arith;
-      nine = c.loop-i.invariant.nine;
-      left = first_on c.args.tests c.loop-i.i (omega arith) c.loop-i.invariant.left (ap not c.if-not-passes.false);
-    }
-
-pub returns : goal.returns
-returns c = first_end c.args.tests c.loop-i.i (omega arith) c.loop-i.invariant.left
+pub returns-in-None : goal.returns-in-None
+returns-in-None c = let p : position not c.args.tests ≡ None = search rules in line_none c.args.tests p

@@ -1,22 +1,30 @@
-use Rattle.std.proofs.Common.{arith}
-use Rattle.lines.proofs.Lines.{head_short, head_none, head_low, head_high, head_wrong, head_right}
+use Rattle.std.proofs.Common.{rules, ◌≡◌, ◌∙◌, ◌∷◌, length, ap, Err, arith}
+use Rattle.units.specs.declared.Refusal.TheVariants.{UnknownKind}
+use Rattle.units.specs.Kinds.{number_of_kind}
+use Rattle.lines.specs.Lines.{refusal_number}
+use Rattle.lines.proofs.Lines.{head_short, head_none, head_unknown, head_wrong, head_right}
 use Rattle.lines.proofs.head.Goals as goal
 
-pub returns-then-room-lt255 : goal.returns-then-room-lt255
-returns-then-room-lt255 c = head_short c.args.room c.args.bytes.now c.if-room-lt255.true
+pub returns-then-room-from-clause-line : goal.returns-then-room-from-clause-line
+returns-then-room-from-clause-line c = head_short c.args.room c.args.bytes.now (omega arith)
 
-pub returns-then-bytes-eq0 : goal.returns-then-bytes-eq0
-returns-then-bytes-eq0 c = head_none c.args.room (omega arith) c.args.bytes.now c.if-bytes-eq0.true
+pub returns-in_err-first-clause-line : goal.returns-in_err-first-clause-line
+returns-in_err-first-clause-line c =
+    let e : c.from_residual.result ≡ Err UnknownKind = search rules in
+    let z : length c.args.bytes.now ≡ 0 = search rules in
+    ap refusal_number e ∙ head_none c.args.room (omega arith) c.args.bytes.now z
 
-pub returns-then-kind-lt1 : goal.returns-then-kind-lt1
-returns-then-kind-lt1 c = head_low c.args.room (omega arith) c.args.bytes.now c.if-kind-lt1.true
+pub returns-in_err-kind-clause-line : goal.returns-in_err-kind-clause-line
+returns-in_err-kind-clause-line c =
+    let e : c.from_residual-in_err-kind.result ≡ Err UnknownKind = search rules in
+    ap refusal_number e ∙ head_unknown c.args.room (omega arith) c.args.bytes.now (search rules)
 
-pub returns-then-kind-gt10 : goal.returns-then-kind-gt10
-returns-then-kind-gt10 c = head_high c.args.room (omega arith) c.args.bytes.now (omega arith) c.if-kind-gt10.true
+pub returns-then-body-from-clause-line : goal.returns-then-body-from-clause-line
+returns-then-body-from-clause-line c =
+    let s : c.args.bytes.now ≡ number_of_kind c.in_ok-kind.kind ∷ c.in_ok-first.body.now = search rules in
+    head_wrong c.args.room (omega arith) c.in_ok-kind.kind c.in_ok-first.body.now c.args.bytes.now s (λ e. c.if-body-from.true (omega (arith, e, c.from-2.ensures, c.body_length.ensures)))
 
-pub returns-then-bytes-body : goal.returns-then-bytes-body
-returns-then-bytes-body c =
-    head_wrong c.args.room (omega arith) c.args.bytes.now (omega arith) (omega arith) (λ e. c.if-bytes-body.true (omega (arith, c.body_length-body.ensures)))
-
-pub returns : goal.returns
-returns c = head_right c.args.room (omega arith) c.args.bytes.now (omega arith) (omega arith) (omega (arith, c.body_length-body.ensures))
+pub returns-clause-line : goal.returns-clause-line
+returns-clause-line c =
+    let s : c.args.bytes.now ≡ number_of_kind c.in_ok-kind.kind ∷ c.in_ok-first.body.now = search rules in
+    head_right c.args.room (omega arith) c.in_ok-kind.kind c.in_ok-first.body.now c.args.bytes.now s (omega arith)
