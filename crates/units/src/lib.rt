@@ -33,7 +33,7 @@ pub trait Unit: Copy {
 }
 
 // The unit that a node occupies.
-#[derive(Clone, Copy, Debug, PartialEq, Eq, PartialOrd, Ord, Hash)]
+#[derive(Clone, Copy, Debug, PartialEq, Eq)]
 pub struct NodeUnit(pub u8);
 
 impl NodeUnit {
@@ -62,7 +62,7 @@ impl Unit for NodeUnit {
 }
 
 // The first unit of a branch, by which buffers and inputs name it.
-#[derive(Clone, Copy, Debug, PartialEq, Eq, PartialOrd, Ord, Hash)]
+#[derive(Clone, Copy, Debug, PartialEq, Eq)]
 pub struct BranchRoot(pub u8);
 
 impl BranchRoot {
@@ -109,7 +109,7 @@ pub trait SlotNumber: Copy {
 }
 
 // The number of an unfinished slot.
-#[derive(Clone, Copy, Debug, PartialEq, Eq, PartialOrd, Ord, Hash)]
+#[derive(Clone, Copy, Debug, PartialEq, Eq)]
 pub struct UnfinishedSlot(pub u8);
 
 impl UnfinishedSlot {
@@ -135,7 +135,7 @@ impl SlotNumber for UnfinishedSlot {
 }
 
 // The number of a compactor slot.
-#[derive(Clone, Copy, Debug, PartialEq, Eq, PartialOrd, Ord, Hash)]
+#[derive(Clone, Copy, Debug, PartialEq, Eq)]
 pub struct CompactorSlot(pub u8);
 
 impl CompactorSlot {
@@ -161,7 +161,7 @@ impl SlotNumber for CompactorSlot {
 }
 
 // How often a node or a branch is counted.
-#[derive(Clone, Copy, Debug, PartialEq, Eq, PartialOrd, Ord, Hash)]
+#[derive(Clone, Copy, Debug, PartialEq, Eq)]
 pub struct Count(pub u16);
 
 impl Count {
