@@ -69,6 +69,8 @@ module _ (room : ℕ) where
       unfolding head_of
       head_right l e h = rw (e, le-leb last_unit room long, kind_numbered kind, eq-eqb (length b) (body_length (number_of_kind kind)) h)
 
+pub ruleset head_laws = (head_short, head_none, head_unknown, head_wrong, head_right)
+
 -- ---- the numbers and the rules
 
 pub need_number : (b : Bool) (n : ℕ) (o : Outcome) → number (need b n o) ≡ unless b n (number o)

@@ -9,6 +9,7 @@ ghost use Rattle.lines.specs.Lines.{head_of, first_of, numbered, refusal_number}
 use units::{Kind, NodeUnit, Refusal};
 
 // The kind of a record that passes the lines 1, 2 and 3, for a lent list of `room` bytes.
+#[tactic(auto, using(crate::proofs::Lines::head_laws))]
 pub fn head(bytes: &[u8], room: usize) -> Result<Kind, Refusal>
     ensures line { refusal_number result ≡ head_of bytes.now room }
     ensures kind { IfOk result (λ kind. number_of_kind kind ≡ get_or bytes.now 0 0) }
@@ -46,6 +47,7 @@ fn first_failing(tests: &[bool; 9]) -> Option<usize>
 }
 
 // The first of the lines 4 to 12 whose test fails.
+#[tactic(auto, using(crate::proofs::Lines::line_at, crate::proofs::Lines::line_none))]
 pub fn first_line(tests: [bool; 9]) -> Result<(), Refusal>
     ensures { refusal_number result ≡ first_of (numbered 4 tests) }
 {
