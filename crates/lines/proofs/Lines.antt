@@ -1,14 +1,17 @@
--- The loop and the tests behind `head` and `first_line`, and what the numbers say of the rules. Assumes nothing.
+-- The tests behind `head` and `first_line`, and what the numbers say of the rules. Assumes nothing.
 use mathlib.Core.Path.{◌≡◌, refl, sym, ap, ◌∙◌}
-use mathlib.Core.Bool.{Bool, true, false, ◌&&◌, not}
+use mathlib.Core.Bool.{Bool, true, false, ◌&&◌, cond, not}
 use mathlib.Core.List.{List, [], ◌∷◌}
-use Prim.Native.Nat.{ℕ, zero, suc, ◌+◌, ◌≤◌, ◌<◌}
+use Prim.Native.Nat.{ℕ, suc, ◌+◌, ◌≤◌, ◌<◌}
 use native.Mathlib.Omega.{arith}
-use native.Mathlib.Numerals.{add-one}
 use lib.Dec.{eqb, leb}
 use lib.ListN.{length, get_or, drop}
-use lib.Seq.{drop-cons}
 use borrow.Author.Tests.{le-leb, lt-leb, eq-eqb, ne_eqb}
+use Rattle.std.specs.Prelude.{Option, Some, None, nat_lt}
+use Rattle.std.specs.List.{position, position_or_len}
+use Rattle.units.specs.declared.Kind.{Kind}
+use Rattle.units.specs.Kinds.{number_of_kind}
+use Rattle.units.proofs.Numbers.{kind_numbered}
 use Rattle.units.specs.Limits.{last_unit, last_kind}
 use Rattle.units.specs.Bodies.{body_length}
 use Rattle.rules.specs.Tables.{all}
@@ -19,37 +22,24 @@ use Rattle.lines.specs.Lines.{unless, first_of, numbered, head_of, number, tests
 
 -- ---- the first test that fails
 
-module _ (l : List Bool) (i : ℕ) (h : i < length l) (inv : first_of (numbered 4 l) ≡ first_of (numbered (4 + i) (drop i l))) where
-  here : first_of (numbered 4 l) ≡ unless (get_or l i false) (4 + i) (first_of (numbered (suc (4 + i)) (drop (suc i) l)))
-  unfolding first_of
-  here = inv ∙ ap (λ (x : List Bool). first_of (numbered (4 + i) x)) (drop-cons l i false h)
+abbrev number_at : ℕ → Option ℕ → ℕ
+number_at n None = 0
+number_at n (Some i) = n + i
 
-  pub first_stop : not (get_or l i false) ≡ true → i + 4 ≡ first_of (numbered 4 l)
-  first_stop e = omega (arith, here, ap (λ (b : Bool). unless b (4 + i) (first_of (numbered (suc (4 + i)) (drop (suc i) l)))) (falls (get_or l i false) e))
-    where
-      falls : (b : Bool) → not b ≡ true → b ≡ false
-      falls true e = sym e
-      falls false e = refl
+place_on : (n p k : ℕ) → number_at n (cond (nat_lt (1 + p) (suc k)) (Some (1 + p)) None) ≡ number_at (suc n) (cond (nat_lt p k) (Some p) None)
+place_on n p k = grind arith
 
-  pub first_on : not (get_or l i false) ≡ false → first_of (numbered 4 l) ≡ first_of (numbered (4 + (i + 1)) (drop (i + 1) l))
-  first_on e =
-      let q : suc (4 + i) ≡ 4 + (i + 1) = omega arith in
-      here ∙ ap (λ (b : Bool). unless b (4 + i) (first_of (numbered (suc (4 + i)) (drop (suc i) l)))) (stands (get_or l i false) e)
-      ∙ ap (λ (n : ℕ). first_of (numbered n (drop (suc i) l))) q ∙ ap (λ (j : ℕ). first_of (numbered (4 + (i + 1)) (drop j l))) (sym (add-one i))
-    where
-      stands : (b : Bool) → not b ≡ false → b ≡ true
-      stands true e = refl
-      stands false e = sym e
-
-pub first_end : (l : List Bool) (i : ℕ) → length l ≤ i → first_of (numbered 4 l) ≡ first_of (numbered (4 + i) (drop i l)) → 0 ≡ first_of (numbered 4 l)
+first_place : (n : ℕ) (l : List Bool) → number_at n (position not l) ≡ first_of (numbered n l)
 unfolding first_of
-first_end l i h inv = sym (inv ∙ ap (λ (x : List Bool). first_of (numbered (4 + i) x)) (past l i h))
-  where
-    past : (l : List Bool) (i : ℕ) → length l ≤ i → drop i l ≡ []
-    past [] zero h = refl
-    past [] (suc i) h = refl
-    past (x ∷ xs) zero h = absurd (omega arith)
-    past (x ∷ xs) (suc i) h = past xs i (omega arith)
+first_place n [] = refl
+first_place n (false ∷ l) = ap (λ (b : Bool). number_at n (cond b (Some 0) None)) (le-leb 1 (length (false ∷ l)) (omega arith)) ∙ omega arith
+first_place n (true ∷ l) = place_on n (position_or_len not l) (length l) ∙ first_place (suc n) l
+
+pub line_at : (l : List Bool) (i : ℕ) → position not l ≡ Some i → 4 + i ≡ first_of (numbered 4 l)
+line_at l i e = sym (ap (number_at 4) e) ∙ first_place 4 l
+
+pub line_none : (l : List Bool) → position not l ≡ None → 0 ≡ first_of (numbered 4 l)
+line_none l e = sym (ap (number_at 4) e) ∙ first_place 4 l
 
 -- ---- lines 1 to 3
 
@@ -65,28 +55,21 @@ module _ (room : ℕ) where
     head_none [] e = rw (le-leb last_unit room long)
     head_none (k ∷ b) e = absurd (omega arith)
 
-    pub head_low : (l : List ℕ) → get_or l 0 0 < 1 → 2 ≡ head_of l room
+    pub head_unknown : (l : List ℕ) → (leb 1 (get_or l 0 0) && leb (get_or l 0 0) last_kind) ≡ false → 2 ≡ head_of l room
     unfolding head_of
-    head_low [] h = rw (le-leb last_unit room long)
-    head_low (k ∷ b) h = rw (le-leb last_unit room long, lt-leb 1 k h)
+    head_unknown [] e = rw (le-leb last_unit room long)
+    head_unknown (k ∷ b) e = rw (le-leb last_unit room long, e)
 
-    pub head_high : (l : List ℕ) → 1 ≤ get_or l 0 0 → last_kind < get_or l 0 0 → 2 ≡ head_of l room
-    unfolding head_of
-    head_high [] h q = absurd (omega arith)
-    head_high (k ∷ b) h q = rw (le-leb last_unit room long, le-leb 1 k h, lt-leb k last_kind q)
+    module _ (kind : Kind) (b : List ℕ) where
+      pub head_wrong : (l : List ℕ) → l ≡ number_of_kind kind ∷ b → (length b ≡ body_length (number_of_kind kind) → ⊥) → 3 ≡ head_of l room
+      unfolding head_of
+      head_wrong l e n = rw (e, le-leb last_unit room long, kind_numbered kind, ne_eqb (length b) (body_length (number_of_kind kind)) n)
 
-    pub head_wrong : (l : List ℕ) → 1 ≤ get_or l 0 0 → get_or l 0 0 ≤ last_kind → (length l ≡ 1 + body_length (get_or l 0 0) → ⊥) → 3 ≡ head_of l room
-    unfolding head_of
-    head_wrong [] h q n = absurd (omega arith)
-    head_wrong (k ∷ b) h q n =
-        rw (le-leb last_unit room long, le-leb 1 k h, le-leb k last_kind q, ne_eqb (length b) (body_length k) (λ e. n (omega arith)))
+      pub head_right : (l : List ℕ) → l ≡ number_of_kind kind ∷ b → length b ≡ body_length (number_of_kind kind) → 0 ≡ head_of l room
+      unfolding head_of
+      head_right l e h = rw (e, le-leb last_unit room long, kind_numbered kind, eq-eqb (length b) (body_length (number_of_kind kind)) h)
 
-    pub head_right : (l : List ℕ) → 1 ≤ get_or l 0 0 → get_or l 0 0 ≤ last_kind → length l ≡ 1 + body_length (get_or l 0 0) → 0 ≡ head_of l room
-    unfolding head_of
-    head_right [] h q e = absurd (omega arith)
-    head_right (k ∷ b) h q e =
-        let z : length b ≡ body_length k = omega arith in
-        rw (le-leb last_unit room long, le-leb 1 k h, le-leb k last_kind q, eq-eqb (length b) (body_length k) z)
+pub ruleset head_laws = (head_short, head_none, head_unknown, head_wrong, head_right)
 
 -- ---- the numbers and the rules
 

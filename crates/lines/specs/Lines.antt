@@ -1,8 +1,10 @@
 -- The table of refusals as a list of tests with their numbers, and the first that fails; 0 where none does.
 -- Assumes nothing.
-use Rattle.std.specs.Prelude.{◌≡◌, Bool, true, false, ◌&&◌, List, [], ◌∷◌, ℕ, suc, eqb, leb, length}
+use Rattle.std.specs.Prelude.{◌≡◌, Bool, true, false, ◌&&◌, List, [], ◌∷◌, ℕ, suc, Result, Ok, Err, eqb, leb, length}
+use Rattle.units.specs.declared.Refusal.{Refusal}
 use Rattle.units.specs.Limits.{last_unit, last_kind}
 use Rattle.units.specs.Bodies.{body_length}
+use Rattle.units.specs.Refusals.{number_of}
 use Rattle.rules.specs.Tables.{all}
 use Rattle.rules.specs.Store.{Store}
 use Rattle.rules.specs.Steps.{Outcome, accepted, refused, Change, extended, small, fresh, fit}
@@ -25,6 +27,11 @@ unfoldable pub head_of : List ℕ → ℕ → ℕ
 head_of [] room = unless (leb last_unit room) 1 2
 head_of (kind ∷ body) room =
     unless (leb last_unit room) 1 (unless (leb 1 kind && leb kind last_kind) 2 (unless (eqb (length body) (body_length kind)) 3 0))
+
+-- document 01's number of a result, 0 where it is Ok
+abbrev pub refusal_number : {A : Type 0} → Result A Refusal → ℕ
+refusal_number (Ok a) = 0
+refusal_number (Err why) = number_of why
 
 -- document 01's number of an outcome, 0 for acceptance
 abbrev pub number : Outcome → ℕ

@@ -1,44 +1,58 @@
-// The table of refusals as numbers, 0 for none: the lines 1 to 3 of any record, and the first of the lines 4 to 12 that applies.
+// The table of refusals: the lines 1 to 3 of any record, and the first of the lines 4 to 12 that applies.
 #![tactic(auto)]
 
-ghost use Rattle.std.specs.Prelude.{◌≡◌, ◌+◌, length};
-ghost use Rattle.lines.specs.Lines.{head_of, first_of, numbered};
+ghost use Rattle.std.specs.Prelude.{◌≡◌, ◌<◌, IfOk, IfSome, get_or, not};
+ghost use Rattle.std.specs.List.{position};
+ghost use Rattle.units.specs.Kinds.{number_of_kind};
+ghost use Rattle.lines.specs.Lines.{head_of, first_of, numbered, refusal_number};
 
-// Lines 1, 2 and 3, for a lent list of `room` bytes.
-pub fn head(bytes: &[u8], room: usize) -> u8
-    ensures { result ≡ head_of bytes.now room }
+use units::{Kind, NodeUnit, Refusal};
+
+// The kind of a record that passes the lines 1, 2 and 3, for a lent list of `room` bytes.
+#[tactic(auto, using(crate::proofs::Lines::head_laws))]
+pub fn head(bytes: &[u8], room: usize) -> Result<Kind, Refusal>
+    ensures line { refusal_number result ≡ head_of bytes.now room }
+    ensures kind { IfOk result (λ kind. number_of_kind kind ≡ get_or bytes.now 0 0) }
 {
-    if room < 255 {
-        return 1;
+    if room < usize::from(NodeUnit::LAST) {
+        return Err(Refusal::ShortList);
     }
-    if bytes.len() == 0 {
-        return 2;
+    let (&first, body) = bytes.split_first().ok_or(Refusal::UnknownKind)?;
+    let kind = Kind::try_from(first)?;
+    if body.len() != usize::from(kind.body_length()) {
+        return Err(Refusal::WrongLength);
     }
-    let kind = bytes[0];
-    if kind < 1 {
-        return 2;
-    }
-    if 10 < kind {
-        return 2;
-    }
-    let body = units::body_length(kind) as usize;
-    if bytes.len() != 1 + body {
-        return 3;
-    }
-    0
+    Ok(kind)
+}
+
+// The lines 4 to 12, one to a test.
+const LINES: [Refusal; 9] = [
+    Refusal::BadPlace,
+    Refusal::UnfitSlot,
+    Refusal::NoSuchChild,
+    Refusal::OutOfRange,
+    Refusal::NotTheInput,
+    Refusal::TooMany,
+    Refusal::TooDeep,
+    Refusal::NotFresh,
+    Refusal::CountTooHigh,
+];
+
+// Where the first test that fails stands.
+fn first_failing(tests: &[bool; 9]) -> Option<usize>
+    ensures first { result ≡ position not tests.now }
+    ensures within { IfSome result (λ i. i < 9) }
+{
+    tests.iter().position(|passes| !passes)
 }
 
 // The first of the lines 4 to 12 whose test fails.
-pub fn first_line(tests: [bool; 9]) -> u8
-    ensures { result ≡ first_of (numbered 4 tests) }
+#[tactic(auto, using(crate::proofs::Lines::line_at, crate::proofs::Lines::line_none))]
+pub fn first_line(tests: [bool; 9]) -> Result<(), Refusal>
+    ensures { refusal_number result ≡ first_of (numbered 4 tests) }
 {
-    let mut i: usize = 0;
-    while i < 9 {
-        let passes = tests[i];
-        if !passes {
-            return i as u8 + 4;
-        }
-        i += 1;
+    match first_failing(&tests) {
+        Some(i) => Err(LINES[i]),
+        None => Ok(()),
     }
-    0
 }

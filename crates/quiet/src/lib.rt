@@ -13,7 +13,7 @@ ghost use Rattle.quiet.specs.Inputs.{begin_target, begin_shape, begin_tests, beg
 use counting::Node;
 use path::Found;
 use tables::{Input, Slot};
-use units::{CompactorSlot, UnfinishedSlot};
+use units::{CompactorSlot, SlotNumber, UnfinishedSlot};
 
 // ---- an unfinished slot by value
 

@@ -8,7 +8,7 @@ ghost use Rattle.counting.specs.Graph.{children_in};
 ghost use Rattle.recount.specs.Walks.{Outcome, counted, places_of, visit_of, counts_of};
 ghost use Rattle.recount.specs.Recounts.{Recounted};
 
-use units::{BranchRoot, NodeUnit, Refusal};
+use units::{BranchRoot, NodeUnit, Refusal, Unit};
 
 // Nodes on a way.
 const LONGEST: u8 = 8;

@@ -4,7 +4,6 @@ use mathlib.Core.Bool.{false}
 use Prim.Native.Nat.{ℕ, zero, suc, ◌≤◌}
 use native.Mathlib.Omega.{arith}
 use lib.ListN.{replicate}
-use Rattle.units.specs.declared.Refusal.TheVariants.{CountTooHigh}
 use Rattle.units.specs.Refusals.{number_of}
 use Rattle.rules.specs.Store.{empty_store, units, held_units, held}
 use Rattle.path.specs.Standing.{tree_length}
@@ -18,23 +17,7 @@ use Rattle.state.proofs.Counts.{counts_empty}
 use Rattle.state.proofs.Maps.{map_empty, map_same}
 use Rattle.step.specs.Answers.{refusal_of}
 
--- a number that is none of the lines 1 to 11
-pub other : (n : ℕ) → (n ≡ 1 → ⊥) → (n ≡ 2 → ⊥) → (n ≡ 3 → ⊥) → (n ≡ 4 → ⊥) → (n ≡ 5 → ⊥) → (n ≡ 6 → ⊥) → (n ≡ 7 → ⊥) → (n ≡ 8 → ⊥) → (n ≡ 9 → ⊥) → (n ≡ 10 → ⊥) → (n ≡ 11 → ⊥) → CountTooHigh ≡ refusal_of n
-other zero h1 h2 h3 h4 h5 h6 h7 h8 h9 h10 h11 = refl
-other (suc zero) h1 h2 h3 h4 h5 h6 h7 h8 h9 h10 h11 = absurd (h1 refl)
-other (suc (suc zero)) h1 h2 h3 h4 h5 h6 h7 h8 h9 h10 h11 = absurd (h2 refl)
-other (suc (suc (suc zero))) h1 h2 h3 h4 h5 h6 h7 h8 h9 h10 h11 = absurd (h3 refl)
-other (suc (suc (suc (suc zero)))) h1 h2 h3 h4 h5 h6 h7 h8 h9 h10 h11 = absurd (h4 refl)
-other (suc (suc (suc (suc (suc zero))))) h1 h2 h3 h4 h5 h6 h7 h8 h9 h10 h11 = absurd (h5 refl)
-other (suc (suc (suc (suc (suc (suc zero)))))) h1 h2 h3 h4 h5 h6 h7 h8 h9 h10 h11 = absurd (h6 refl)
-other (suc (suc (suc (suc (suc (suc (suc zero))))))) h1 h2 h3 h4 h5 h6 h7 h8 h9 h10 h11 = absurd (h7 refl)
-other (suc (suc (suc (suc (suc (suc (suc (suc zero)))))))) h1 h2 h3 h4 h5 h6 h7 h8 h9 h10 h11 = absurd (h8 refl)
-other (suc (suc (suc (suc (suc (suc (suc (suc (suc zero))))))))) h1 h2 h3 h4 h5 h6 h7 h8 h9 h10 h11 = absurd (h9 refl)
-other (suc (suc (suc (suc (suc (suc (suc (suc (suc (suc zero)))))))))) h1 h2 h3 h4 h5 h6 h7 h8 h9 h10 h11 = absurd (h10 refl)
-other (suc (suc (suc (suc (suc (suc (suc (suc (suc (suc (suc zero))))))))))) h1 h2 h3 h4 h5 h6 h7 h8 h9 h10 h11 = absurd (h11 refl)
-other (suc (suc (suc (suc (suc (suc (suc (suc (suc (suc (suc (suc n)))))))))))) h1 h2 h3 h4 h5 h6 h7 h8 h9 h10 h11 = refl
-
--- each line's number comes back
+-- each line's number comes back from the refusal that the public `refusal_of` answers
 pub number_back : (n : ℕ) → 1 ≤ n → n ≤ 12 → number_of (refusal_of n) ≡ n
 number_back zero h q = absurd (omega arith)
 number_back (suc zero) h q = refl

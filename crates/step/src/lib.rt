@@ -1,4 +1,4 @@
-// The empty state, and the answer of a step: how many units it freed, or why it was turned down.
+// The empty state, and the refusal of a number. A step answers `Result<u8, Refusal>`: how many units it freed, or why it was turned down.
 #![tactic(auto)]
 
 ghost use Rattle.std.specs.Prelude.{◌≡◌, [], ◌∷◌, replicate};
@@ -9,12 +9,6 @@ ghost use Rattle.state.specs.Standing.{counts_length};
 ghost use Rattle.step.specs.Answers.{refusal_of};
 
 use units::Refusal;
-
-#[derive(Clone, Copy)]
-pub enum Answer {
-    Accepted(u8),
-    Refused(Refusal),
-}
 
 // The state of the empty store.
 pub fn empty(
@@ -34,7 +28,7 @@ pub fn empty(
     *map = [0u64; 4];
 }
 
-// The refusal of a step's number.
+// The refusal of a step's number. Public, and so it answers a number that is no line's too, with the last line.
 pub fn refusal_of(number: u8) -> Refusal
     ensures { result ≡ refusal_of number }
 {

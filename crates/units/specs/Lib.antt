@@ -1,3 +1,4 @@
 pub mod Limits
 pub mod Bodies
+pub mod Kinds
 pub mod Refusals
