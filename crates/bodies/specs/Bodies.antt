@@ -1,21 +1,19 @@
 -- The node that a path leads to in the bytes of the tree. Assumes nothing.
-use Rattle.std.specs.Prelude.{Bool, true, false, cond, List, ℕ, eqb, ltb, get_or}
+use Rattle.std.specs.Prelude.{Bool, cond, Option, None, is_some, unwrap_or, List, ℕ, eqb, min, get_or}
 use Rattle.units.specs.Bodies.{indexes}
-use Rattle.path.specs.declared.Found.{Found}
-use Rattle.path.specs.declared.Found.TheVariants.{At, Nowhere}
+use Rattle.units.specs.declared.NodeUnit.{NodeUnit}
 use Rattle.path.specs.Graph.{found_in}
 
 -- how many of the seven places a depth uses
 unfoldable pub used_of : ℕ → ℕ
-used_of d = cond (ltb d indexes) d indexes
+used_of d = min d indexes
 
-unfoldable pub target_in : List ℕ → List ℕ → Found
-target_in l p = cond (eqb (get_or l 0 0) 0) Nowhere (found_in l p (get_or l 0 0))
+unfoldable pub target_in : List ℕ → List ℕ → Option NodeUnit
+target_in l p = cond (eqb (get_or l 0 0) 0) None (found_in l p (get_or l 0 0))
 
-abbrev pub unit_of : Found → ℕ
-unit_of (At u) = u.0
-unit_of Nowhere = 0
+-- the unit, 0 for none
+abbrev pub unit_of : Option NodeUnit → ℕ
+unit_of f = (unwrap_or f (record { 0 = 0 })).0
 
-abbrev pub is_found : Found → Bool
-is_found (At u) = true
-is_found Nowhere = false
+abbrev pub is_found : Option NodeUnit → Bool
+is_found f = is_some f

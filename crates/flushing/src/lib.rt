@@ -22,7 +22,7 @@ pub fn flush_tests(tree: &[u8; 6656], counts: &[u16; 512], map: &[u64; 4], body:
     let n = ends.node;
     let buffers = n.buffers;
     let units = [body[17], body[18]];
-    let shape = pathed::both(bodies::path_shape(d, is, fs), pathed::is_index(c));
+    let shape = bodies::path_shape(d, is, fs) && pathed::is_index(c);
     let range = shapes::gc_fits(n, c, gc);
     let small = shapes::flush_room(n, ends.below, c);
     let fresh = pathed::fresh_units(map, &fs[..k], &units);
@@ -72,7 +72,8 @@ pub fn flush(
     let copied = pathed::copy(tree, counts, map, &is[..k], &fs[..k], &units, f);
     counting::add_node(tree, counts, f, shapes::flush_parent(n, c, gc, g));
     counting::add_node(tree, counts, g, shapes::flush_child(n, ends.below, c));
-    pathed::leave(tree, counts, map, copied, ends.target, ends.child);
+    let target = ends.target.unwrap_or(NodeUnit(NodeUnit::NONE));
+    pathed::leave(tree, counts, map, copied, target, ends.child);
     counting::drop_places(counts, counting::part(&buffers, 0, gc));
     counting::add_places(counts, counting::part(&buffers, offset, n.buffer_number));
     allocation::sweep(counts, hold, map, buffers);

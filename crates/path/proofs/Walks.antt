@@ -1,15 +1,18 @@
 -- The turns of the walks down a path: one index more, and the rest of the same path. Assumes nothing.
-use mathlib.Core.Bool.{Bool, true, false, cond}
+use mathlib.Core.Bool.{Bool, true, false}
 use mathlib.Core.Logic.{⊎_elim}
-use mathlib.Core.Path.{◌≡◌, refl, ap, ap₂, sym, ◌∙◌}
+use mathlib.Core.Path.{◌≡◌, refl, ap, sym, ◌∙◌}
 use mathlib.Core.List.{List, [], ◌∷◌, ◌++◌}
-use Prim.Native.Nat.{ℕ, suc, ◌+◌, ◌-◌, ◌≤◌, ◌<◌}
+use Rattle.std.specs.Prelude.{Some, None}
+use Prim.Native.Nat.{ℕ, suc, ◌+◌, ◌≤◌, ◌<◌, min}
+use Rattle.std.proofs.Math.Nat.{min_comm}
+use Rattle.std.proofs.lemmas.List.{take_min}
 use native.Mathlib.Omega.{arith}
 use native.Mathlib.Numerals.{add-one}
 use lib.Dec.{leb, ltb}
-use lib.ListN.{length, get_or, set, take, drop, length-drop}
-use lib.Seq.{take_all, take-suc, length-take-le, get_or-take, set_comm, set_out}
-use borrow.Author.Tests.{ltb-true, leb-true, leb-false, lt-ltb, le-ltb}
+use lib.ListN.{length, get_or, set, take}
+use lib.Seq.{take_all, take-suc, length-take-le, get_or-take, set_comm}
+use borrow.Author.Tests.{ltb-true, leb-true, leb-false}
 use Rattle.ways.specs.Ways.{follow, spine}
 use Rattle.ways.proofs.Tests.{same_or}
 use Rattle.units.specs.Limits.{room}
@@ -18,20 +21,9 @@ use Rattle.records.specs.Rows.{eight, eight_snoc}
 use Rattle.counting.specs.declared.Node.{Node}
 use Rattle.counting.specs.Nodes.{node_in, put_node}
 use Rattle.counting.specs.Change.{add_counts}
-use Rattle.path.specs.declared.Found.TheVariants.{At, Nowhere}
-use Rattle.path.specs.Graph.{named, with_child, eight_in, children_in, found_in, index_number, top_of, copied_tree}
+use Rattle.path.specs.Graph.{named, with_child, eight_in, children_in, found_in, top_of, copied_tree}
 
 -- ---- an index
-
--- the number of children, where there are eight places
-taken_length : (n : ℕ) (l : List ℕ) → (i : ℕ) → i < length l → ltb i n ≡ ltb i (length (take n l))
-taken_length n l i h = go (leb n (length l)) refl
-  where
-    go : (b : Bool) → leb n (length l) ≡ b → ltb i n ≡ ltb i (length (take n l))
-    go true q = ap (ltb i) (sym (length-take-le n l (leb-true n (length l) q)))
-    go false q =
-        let m : length l < n = leb-false n (length l) q in
-        lt-ltb i n (omega arith) ∙ sym (ap (λ (k : List ℕ). ltb i (length k)) (take_all n l (omega arith)) ∙ lt-ltb i (length l) h)
 
 -- never more than it says
 taken_short : (n : ℕ) (l : List ℕ) → length (take n l) ≤ n
@@ -41,16 +33,6 @@ taken_short n l = go (leb n (length l)) refl
     go true q = omega (arith, length-take-le n l (leb-true n (length l) q))
     go false q = omega (arith, leb-false n (length l) q, ap length (take_all n l (omega (arith, leb-false n (length l) q))))
 
-pub index_here : (n : Node) (i : ℕ) → length n.children ≡ room → i < room → ltb i n.child_number ≡ ltb i (length (named n))
-index_here n i e h = taken_length n.child_number n.children i (omega arith)
-
-pub index_behind : (n : Node) (i : ℕ) → length n.children ≡ room → room ≤ i → false ≡ ltb i (length (named n))
-index_behind n i e h = go (leb n.child_number room) refl
-  where
-    go : (b : Bool) → leb n.child_number room ≡ b → false ≡ ltb i (length (named n))
-    go true q = sym (le-ltb i (length (named n)) (omega (arith, leb-true n.child_number room q, length-take-le n.child_number n.children (omega (arith, leb-true n.child_number room q)))))
-    go false q = sym (ap (λ (k : List ℕ). ltb i (length k)) (take_all n.child_number n.children (omega (arith, leb-false n.child_number room q))) ∙ le-ltb i (length n.children) (omega arith))
-
 -- a place among the children is a place of the eight
 pub index_at : (n : Node) (i : ℕ) → ltb i (length (named n)) ≡ true → get_or (named n) i 0 ≡ get_or n.children i 0
 index_at n i h = go (leb n.child_number i) refl
@@ -59,43 +41,27 @@ index_at n i h = go (leb n.child_number i) refl
     go true q = absurd (omega (arith, ltb-true i (length (named n)) h, leb-true n.child_number i q, taken_short n.child_number n.children))
     go false q = get_or-take n.child_number n.children i 0 (leb-false n.child_number i q)
 
-pub with_behind : (n : Node) (i c : ℕ) → length n.children ≡ room → room ≤ i → n ≡ with_child n i c
-with_behind n i c e h = rw (set_out n.children i c (omega arith)) refl
-
--- ---- the rest of a path
-
--- what `&l[1..]` holds
-abbrev pub rest : List ℕ → List ℕ
-rest l = take (length l - 1) (drop 1 l)
-
-rest_drop : (l : List ℕ) → rest l ≡ drop 1 l
-rest_drop l = take_all (length l - 1) (drop 1 l) (simp length-drop (omega arith))
-
-pub rest_length : (l : List ℕ) → length (rest l) ≡ length l - 1
-rest_length l = rw (rest_drop, length-drop)
-
 -- ---- the node at the end
 
-pub found_end : (l p : List ℕ) (u : ℕ) → length p ≡ 0 → At (record { 0 = u }) ≡ found_in l p u
+pub found_end : (l p : List ℕ) (u : ℕ) → length p ≡ 0 → Some (record { 0 = u }) ≡ found_in l p u
 unfolding found_in
 found_end l [] u e = refl
 found_end l (i ∷ p) u e = absurd (omega arith)
 
-pub found_on : (l p : List ℕ) (u : ℕ) (n : Node) (c : ℕ) → 0 < length p → n ≡ node_in l u → true ≡ ltb (get_or p 0 0) (length (named n)) → c ≡ get_or n.children (get_or p 0 0) 0
-    → found_in l (rest p) c ≡ found_in l p u
+-- i is the first index of p, and q the others
+pub found_on : (l p q : List ℕ) (i u : ℕ) (n : Node) (c : ℕ) → p ≡ i ∷ q → n ≡ node_in l u → true ≡ ltb i (length (named n)) → c ≡ get_or n.children i 0
+    → found_in l q c ≡ found_in l p u
 unfolding found_in children_in eight_in node_in
-found_on l [] u n c h e t k = absurd (omega arith)
-found_on l (i ∷ p) u n c h e t k =
+found_on l p q i u n c s e t k =
     let y : ltb i (length (named (node_in l u))) ≡ true = rw e at (sym t) in
     let z : get_or (named (node_in l u)) i 0 ≡ get_or (node_in l u).children i 0 = index_at (node_in l u) i y in
-    rw (rest_drop (i ∷ p), y, z, k, e) refl
+    rw (s, y, z, k, e) refl
 
-pub found_off : (l p : List ℕ) (u : ℕ) (n : Node) → 0 < length p → n ≡ node_in l u → false ≡ ltb (get_or p 0 0) (length (named n)) → Nowhere ≡ found_in l p u
+pub found_off : (l p q : List ℕ) (i u : ℕ) (n : Node) → p ≡ i ∷ q → n ≡ node_in l u → false ≡ ltb i (length (named n)) → None ≡ found_in l p u
 unfolding found_in children_in eight_in node_in
-found_off l [] u n h e t = absurd (omega arith)
-found_off l (i ∷ p) u n h e t =
+found_off l p q i u n s e t =
     let y : ltb i (length (named (node_in l u))) ≡ false = rw e at (sym t) in
-    rw y refl
+    rw (s, y) refl
 
 -- ---- the nodes on the path
 
@@ -138,14 +104,13 @@ path_turn l p u i us at n c h q on e k =
           ∙ ap (λ (x : List ℕ). follow (eight_in l) x u) (sym s);
     }
 
-pub path_end : (l p : List ℕ) (u i : ℕ) (us : List ℕ) (at : ℕ) → i ≡ index_number (length p) → OnPath l p u i us at → us ≡ eight (spine (eight_in l) (take indexes p) u)
-unfolding index_number
-path_end l p u i us at e on =
-    on.units ∙ ap (λ (x : List ℕ). eight (spine (eight_in l) x u)) (ap (λ (k : ℕ). take k p) e ∙ go (ltb (length p) indexes) refl)
-  where
-    go : (b : Bool) → ltb (length p) indexes ≡ b → take (cond b (length p) indexes) p ≡ take indexes p
-    go true q = take_all (length p) p (omega arith) ∙ sym (take_all indexes p (omega (arith, ltb-true (length p) indexes q)))
-    go false q = refl
+-- n indexes are looked at
+pub path_end : (l p : List ℕ) (n u i : ℕ) (us : List ℕ) (at : ℕ) → n ≡ min (length p) indexes → length (take n p) ≤ i → OnPath l (take n p) u i us at
+    → us ≡ eight (spine (eight_in l) (take indexes p) u)
+path_end l p n u i us at e h on =
+    on.units
+    ∙ ap (λ (x : List ℕ). eight (spine (eight_in l) x u))
+    (take_all i (take n p) h ∙ ap (λ (k : ℕ). take k p) (e ∙ min_comm (length p) indexes) ∙ take_min indexes p)
 
 -- ---- the copies
 
@@ -171,26 +136,6 @@ top_short [] fs t e = refl
 top_short (i ∷ p) [] t e = refl
 top_short (i ∷ p) (f ∷ fs) t e = absurd (omega arith)
 
-pub top_turn : (p fs : List ℕ) (t : ℕ) → 0 < length p → 0 < length fs → get_or fs 0 0 ≡ top_of p fs t
-unfolding top_of
-top_turn [] fs t h q = absurd (omega arith)
-top_turn (i ∷ p) [] t h q = absurd (omega arith)
-top_turn (i ∷ p) (f ∷ fs) t h q = refl
-
-pub copied_turn : (l p fs : List ℕ) (u t : ℕ) (n m : Node) (l' w : List ℕ) (k c : ℕ) → 0 < length p → 0 < length fs
-    → n ≡ node_in l u
-    → k ≡ get_or n.children (get_or p 0 0) 0
-    → l' ≡ copied_tree l (rest p) (rest fs) k t
-    → c ≡ top_of (rest p) (rest fs) t
-    → m ≡ with_child n (get_or p 0 0) c
-    → w ≡ put_node l' (get_or fs 0 0) m
-    → w ≡ copied_tree l p fs u t
-unfolding copied_tree eight_in node_in
-copied_turn l [] fs u t n m l' w k c h q en ek el ec em ew = absurd (omega arith)
-copied_turn l (i ∷ p) [] u t n m l' w k c h q en ek el ec em ew = absurd (omega arith)
-copied_turn l (i ∷ p) (f ∷ fs) u t n m l' w k c h q en ek el ec em ew =
-    rw (ew, em, ec, el, ek, en, rest_drop (i ∷ p), rest_drop (f ∷ fs)) refl
-
 -- ---- their counts
 
 set_swap : (l : List ℕ) (i j : ℕ) → set (set l i 1) j 1 ≡ set (set l j 1) i 1
@@ -200,20 +145,16 @@ adds_set : (fs counts : List ℕ) (f : ℕ) → set (add_counts counts fs) f 1 �
 adds_set [] counts f = refl
 adds_set (x ∷ fs) counts f = adds_set fs (set counts x 1) f ∙ ap (λ (l : List ℕ). add_counts l fs) (set_swap counts x f)
 
-pub counts_end : (counts p fs : List ℕ) → length p ≡ 0 → counts ≡ add_counts counts (take (length p) fs)
-counts_end counts p fs e = rw e refl
+-- i is the first index and f the first unit, q and gs the others
+module _ (p q fs gs : List ℕ) (i f : ℕ) (ep : p ≡ i ∷ q) (ef : fs ≡ f ∷ gs) where
+  pub top_turn : (t : ℕ) → f ≡ top_of p fs t
+  unfolding top_of
+  top_turn t = rw (ep, ef) refl
 
-pub counts_short : (counts p fs : List ℕ) → length fs ≡ 0 → counts ≡ add_counts counts (take (length p) fs)
-counts_short counts p fs e = ap (add_counts counts) (sym (take_all (length p) fs (omega arith) ∙ none fs e))
-  where
-    none : (l : List ℕ) → length l ≡ 0 → l ≡ []
-    none [] e = refl
-    none (x ∷ l) e = absurd (omega arith)
+  pub copied_turn : (l : List ℕ) (u t : ℕ) (n m : Node) (l' w : List ℕ) (k c : ℕ) → n ≡ node_in l u → k ≡ get_or n.children i 0 → l' ≡ copied_tree l q gs k t → c ≡ top_of q gs t
+      → m ≡ with_child n i c → w ≡ put_node l' f m → w ≡ copied_tree l p fs u t
+  unfolding copied_tree eight_in node_in
+  copied_turn l u t n m l' w k c en ek el ec em ew = rw (ep, ef, ew, em, ec, el, ek, en) refl
 
-pub counts_turn : (counts p fs w v : List ℕ) → 0 < length p → 0 < length fs → w ≡ add_counts counts (take (length (rest p)) (rest fs)) → v ≡ set w (get_or fs 0 0) 1
-    → v ≡ add_counts counts (take (length p) fs)
-counts_turn counts [] fs w v h q ew ev = absurd (omega arith)
-counts_turn counts (i ∷ p) [] w v h q ew ev = absurd (omega arith)
-counts_turn counts (i ∷ p) (f ∷ fs) w v h q ew ev =
-    let e : w ≡ add_counts counts (take (length p) fs) = ew ∙ ap₂ (λ (a b : List ℕ). add_counts counts (take (length a) b)) (rest_drop (i ∷ p)) (rest_drop (f ∷ fs)) in
-    ev ∙ ap (λ (l : List ℕ). set l f 1) e ∙ adds_set (take (length p) fs) counts f
+  pub counts_turn : (counts w v : List ℕ) → w ≡ add_counts counts (take (length q) gs) → v ≡ set w f 1 → v ≡ add_counts counts (take (length p) fs)
+  counts_turn counts w v ew ev = rw (ep, ef) (ev ∙ ap (λ (l : List ℕ). set l f 1) ew ∙ adds_set (take (length q) gs) counts f)

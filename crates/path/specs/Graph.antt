@@ -1,13 +1,11 @@
 -- The graph that stands in the bytes of the tree, a path down it, and the copy of a path. Assumes nothing.
-use Rattle.std.specs.Prelude.{Bool, cond, List, [], ◌∷◌, ℕ, ◌+◌, ◌*◌, ltb, get_or, set, take}
-use Rattle.units.specs.Bodies.{indexes}
+use Rattle.std.specs.Prelude.{Bool, cond, Option, Some, None, List, [], ◌∷◌, ℕ, ◌+◌, ◌*◌, get_or, set, take}
+use Rattle.units.specs.declared.NodeUnit.{NodeUnit}
 use Rattle.ways.specs.Ways.{follow}
 use Rattle.rules.specs.Steps.{valid}
 use Rattle.records.specs.Rows.{eight_at}
 use Rattle.counting.specs.declared.Node.{Node}
 use Rattle.counting.specs.Nodes.{stride, node_in, put_node}
-use Rattle.path.specs.declared.Found.{Found}
-use Rattle.path.specs.declared.Found.TheVariants.{At, Nowhere}
 
 -- ---- a node's children
 
@@ -31,15 +29,11 @@ children_in l u = take (get_or l (u * stride + 9) 0) (eight_in l u)
 
 -- ---- a path
 
-abbrev pub found : Bool → ℕ → Found
-found b u = cond b (At (record { 0 = u })) Nowhere
+abbrev pub found : Bool → ℕ → Option NodeUnit
+found b u = cond b (Some (record { 0 = u })) None
 
-unfoldable pub found_in : List ℕ → List ℕ → ℕ → Found
+unfoldable pub found_in : List ℕ → List ℕ → ℕ → Option NodeUnit
 found_in l p u = found (valid (children_in l) p u) (follow (children_in l) p u)
-
--- how many indexes of a path are looked at
-unfoldable pub index_number : ℕ → ℕ
-index_number n = cond (ltb n indexes) n indexes
 
 -- ---- the copy of a path
 

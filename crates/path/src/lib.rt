@@ -2,12 +2,12 @@
 // arrays that are not right every function still ends within bounds.
 #![tactic(auto)]
 
-ghost use Rattle.std.specs.Prelude.{◌≤◌, ◌≡◌, ltb, length, get_or, take};
+ghost use Rattle.std.specs.Prelude.{◌≡◌, ltb, length, get_or, take};
 ghost use Rattle.units.specs.Bodies.{indexes};
 ghost use Rattle.ways.specs.Ways.{spine};
 ghost use Rattle.records.specs.Rows.{eight};
 ghost use Rattle.counting.specs.Change.{add_counts};
-ghost use Rattle.path.specs.Graph.{named, with_child, eight_in, found_in, index_number, top_of, copied_tree};
+ghost use Rattle.path.specs.Graph.{named, with_child, eight_in, found_in, top_of, copied_tree};
 
 use counting::Node;
 use units::NodeUnit;
@@ -18,83 +18,54 @@ use units::NodeUnit;
 pub fn child_at(n: Node, i: u8) -> NodeUnit
     ensures { result.0 ≡ get_or n.children i 0 }
 {
-    let children = n.children;
-    if i < 8 {
-        return NodeUnit(children[i as usize]);
-    }
-    NodeUnit(0)
+    let child = n.children.get(i as usize).copied();
+    NodeUnit(child.unwrap_or(NodeUnit::NONE))
 }
 
 // Whether the index is among the node's children.
 pub fn has_child(n: Node, i: u8) -> bool
     ensures { result ≡ ltb i (length (named n)) }
 {
-    let number = n.child_number;
-    if i < 8 {
-        return i < number;
-    }
-    false
+    i < 8 && i < n.child_number
 }
 
-// The node with another child in place i.
-pub fn with_child(n: Node, i: u8, c: NodeUnit) -> Node
+// The node with another child in place i. By index: after `get_mut` a proof knows none of the children.
+pub fn with_child(mut n: Node, i: u8, c: NodeUnit) -> Node
     ensures { result ≡ with_child n i c.0 }
 {
-    let mut m = n;
     if i < 8 {
-        m.children[i as usize] = c.0;
-        return m;
+        n.children[i as usize] = c.0;
     }
     n
 }
 
 // ---- a path
 
-#[derive(Clone, Copy)]
-pub enum Found {
-    At(NodeUnit),
-    Nowhere,
-}
-
-// The node at the end of the path from u. The indexes below a node are the rest of the same path.
-pub fn follow(tree: &[u8; 6656], path: &[u8], u: NodeUnit) -> Found
+// The node at the end of the path from u, none where the path leads nowhere. The indexes below a node are the rest of the same path.
+pub fn follow(tree: &[u8; 6656], path: &[u8], u: NodeUnit) -> Option<NodeUnit>
     ensures { result ≡ found_in tree.now path.now u.0 }
 {
-    if path.len() == 0 {
-        return Found::At(u);
-    }
-    let i = path[0];
+    let Some((&i, rest)) = path.split_first() else {
+        return Some(u);
+    };
     let n = counting::read_node(tree, u);
-    if has_child(n, i) {
-        return follow(tree, &path[1..], child_at(n, i));
+    if !has_child(n, i) {
+        return None;
     }
-    Found::Nowhere
+    follow(tree, rest, child_at(n, i))
 }
 
-// How many indexes of a path are looked at: a path has at most seven.
-fn index_number(n: usize) -> usize
-    ensures { (result ≤ n) × (result ≤ indexes) × (result ≡ index_number n) }
-{
-    if n < 7 {
-        return n;
-    }
-    7
-}
-
-// The units of the nodes on the path from u, root first, zeros after them.
+// The units of the nodes on the path from u, root first, zeros after them; of a path at most seven indexes are looked at.
 pub fn spine_of(tree: &[u8; 6656], path: &[u8], u: NodeUnit) -> [u8; 8]
     ensures { result ≡ eight (spine (eight_in tree.now) (take indexes path.now) u.0) }
 {
-    let end = index_number(path.len());
+    let end = path.len().min(7);
     let mut units = [0u8; 8];
-    let mut at = u.0;
-    let mut i: usize = 0;
-    while i < end {
-        units[i] = at;
-        let n = counting::read_node(tree, NodeUnit(at));
-        let below = child_at(n, path[i]);
-        at = below.0;
-        i += 1;
+    let mut at = u;
+    for (k, &i) in path[..end].iter().enumerate() {
+        units[k] = at.0;
+        let n = counting::read_node(tree, at);
+        at = child_at(n, i);
     }
     units
 }
@@ -113,17 +84,16 @@ pub fn copy_path(
     ensures counts { counts.new ≡ add_counts counts.old (take (length path.now) fresh.now) }
     ensures unit { result.0 ≡ top_of path.now fresh.now t.0 }
 {
-    if path.len() == 0 {
+    let Some((&i, rest)) = path.split_first() else {
         return t;
-    }
-    if fresh.len() == 0 {
+    };
+    let Some((&unit, others)) = fresh.split_first() else {
         return t;
-    }
-    let i = path[0];
-    let f = NodeUnit(fresh[0]);
+    };
+    let f = NodeUnit(unit);
     let n = counting::read_node(tree, u);
     let child = child_at(n, i);
-    let below = copy_path(tree, counts, &path[1..], &fresh[1..], child, t);
+    let below = copy_path(tree, counts, rest, others, child, t);
     counting::add_node(tree, counts, f, with_child(n, i, below));
     f
 }

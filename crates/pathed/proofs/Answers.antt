@@ -1,55 +1,32 @@
 -- What the calls of a function come to, told of variables: the path's end, fresh units in two lists, ways that go in parts.
 -- Assumes nothing.
+use Rattle.std.specs.Prelude.{Option}
 use mathlib.Core.Bool.{Bool, true, false, ◌&&◌}
-use mathlib.Core.Path.{◌≡◌, refl, sym, ap, ap₂, ◌∙◌}
+use mathlib.Core.Path.{◌≡◌, refl, sym, ap, ◌∙◌}
 use mathlib.Core.List.{List, [], ◌∷◌, ◌++◌}
-use Prim.Native.Nat.{ℕ, ◌+◌, ◌≤◌}
-use native.Mathlib.Omega.{arith}
+use Prim.Native.Nat.{ℕ}
 use lib.Dec.{ltb}
-use lib.ListN.{length, get_or, take, drop, length-drop}
-use lib.Seq.{length-take-le}
-use Rattle.units.specs.Bodies.{indexes}
-use Rattle.rules.specs.Tables.{slice}
+use lib.ListN.{length, get_or}
 use Rattle.units.specs.declared.NodeUnit.{NodeUnit}
 use Rattle.counting.specs.declared.Node.{Node}
 use Rattle.counting.specs.Nodes.{node_in}
 use Rattle.counting.specs.Change.{drop_tree, drop_count, drop_trees, drop_counts}
-use Rattle.path.specs.declared.Found.{Found}
 use Rattle.path.specs.Graph.{named}
 use Rattle.bodies.specs.Bodies.{target_in, unit_of, is_found}
 use Rattle.state.specs.Standing.{marks}
 use Rattle.allocation.specs.Going.{let_go_map, let_go_maps}
 use Rattle.allocation.specs.Fresh.{fresh_in, fresh_marks}
 use Rattle.allocation.proofs.Fresh.{fresh_append, fresh_marks_lem}
-use Rattle.pathed.specs.declared.Ends.{Ends}
 use Rattle.pathed.specs.Pathed.{target_unit, target_node, child_unit, child_node, leads_in, leads_to_in, ends_in, going}
 
 -- ---- the path's end
 
-module _ (tree p : List ℕ) (c : ℕ) (f : Found) (u h : NodeUnit) (l k lt : Bool) (n m : Node) where
-  abbrev made : Bool → Bool → ℕ → Node → ℕ → Node → Ends
-  made l lt u n h m = record { leads = l; leads_to = lt; target = record { 0 = u }; node = n; child = record { 0 = h }; below = m }
-
-  pub ends_are : f ≡ target_in tree p → u.0 ≡ unit_of f → l ≡ is_found f → n ≡ node_in tree u.0 → h.0 ≡ get_or n.children c 0 → m ≡ node_in tree h.0
-      → k ≡ ltb c (length (named n)) → lt ≡ (l && k)
-      → record { leads = l; leads_to = lt; target = u; node = n; child = h; below = m } ≡ ends_in tree p c
+module _ (tree p : List ℕ) (c : ℕ) (f : Option NodeUnit) (h : NodeUnit) (lt : Bool) (n m : Node) where
+  pub ends_are : f ≡ target_in tree p → n ≡ node_in tree (unit_of f) → h.0 ≡ get_or n.children c 0 → m ≡ node_in tree h.0
+      → lt ≡ (is_found f && ltb c (length (named n))) → record { target = f; leads_to = lt; node = n; child = h; below = m } ≡ ends_in tree p c
   unfolding target_unit target_node child_unit child_node leads_in leads_to_in
-  ends_are ef eu el en eh em ek elt =
-      let qu : u.0 ≡ target_unit tree p = eu ∙ ap unit_of ef in
-      let qn : n ≡ target_node tree p = en ∙ ap (node_in tree) qu in
-      let qh : h.0 ≡ child_unit tree p c = eh ∙ ap (λ (x : Node). get_or x.children c 0) qn in
-      let ql : l ≡ leads_in tree p = el ∙ ap is_found ef in
-      let qt : lt ≡ leads_to_in tree p c = elt ∙ ap₂ ◌&&◌ ql (ek ∙ ap (λ (x : Node). ltb c (length (named x))) qn) in
-      ap (λ (x : Bool). made x lt u.0 n h.0 m) ql
-      ∙ ap (λ (x : Bool). made (leads_in tree p) x u.0 n h.0 m) qt
-      ∙ ap (λ (x : ℕ). made (leads_in tree p) (leads_to_in tree p c) x n h.0 m) qu
-      ∙ ap (λ (x : Node). made (leads_in tree p) (leads_to_in tree p c) (target_unit tree p) x h.0 m) qn
-      ∙ ap (λ (x : ℕ). made (leads_in tree p) (leads_to_in tree p c) (target_unit tree p) (target_node tree p) x m) qh
-      ∙ ap (λ (x : Node). made (leads_in tree p) (leads_to_in tree p c) (target_unit tree p) (target_node tree p) (child_unit tree p c) x) (em ∙ ap (node_in tree) qh)
-
--- the first k of seven bytes of a body are k
-pub part_length : (b : List ℕ) (at k : ℕ) → at + indexes ≤ length b → k ≤ indexes → k ≡ length (take k (slice at indexes b))
-part_length b at k h q = sym (length-take-le k (slice at indexes b) (omega (arith, length-take-le indexes (drop at b) (omega (arith, length-drop at b)))))
+  ends_are ef en eh em elt =
+      let q : record { target = f; leads_to = lt; node = n; child = record { 0 = h.0 }; below = m } ≡ ends_in tree p c = rw (elt, em, eh, en, ef) refl in q
 
 -- ---- fresh units in two lists
 

@@ -41,9 +41,8 @@ leads_to_in tree p c = leads_in tree p && ltb c (length (named (target_node tree
 
 abbrev pub ends_in : List ℕ → List ℕ → ℕ → Ends
 ends_in tree p c = record {
-  leads = leads_in tree p;
+  target = target_in tree p;
   leads_to = leads_to_in tree p c;
-  target = record { 0 = target_unit tree p };
   node = target_node tree p;
   child = record { 0 = child_unit tree p c };
   below = child_node tree p c;

@@ -2,7 +2,7 @@
 // that go. On arrays that are not right every function still ends within bounds.
 #![tactic(auto)]
 
-ghost use Rattle.std.specs.Prelude.{◌&&◌, ◌++◌, ◌≡◌, length, get_or, set, take};
+ghost use Rattle.std.specs.Prelude.{◌++◌, ◌≡◌, length, get_or, set, take};
 ghost use Rattle.rules.specs.Steps.{is_index};
 ghost use Rattle.counting.specs.Change.{drop_trees, drop_counts, add_counts};
 ghost use Rattle.state.specs.Standing.{marks};
@@ -13,15 +13,6 @@ ghost use Rattle.pathed.specs.Pathed.{ends_in, copied_from, copy_tree, going};
 use counting::Node;
 use units::NodeUnit;
 
-pub fn both(a: bool, b: bool) -> bool
-    ensures { result ≡ (a && b) }
-{
-    if a {
-        return b;
-    }
-    false
-}
-
 pub fn is_index(i: u8) -> bool
     ensures { result ≡ is_index i }
 {
@@ -30,12 +21,12 @@ pub fn is_index(i: u8) -> bool
 
 // ---- the path's end
 
-// The target, the child at a place of it, and whether they are there. What is not there is read at unit 0.
-#[derive(Clone, Copy)]
+// The target, none where the path leads nowhere, and the child at a place of it. A node that is not there is read at unit 0.
+#[derive(Clone, Copy, Debug, PartialEq, Eq)]
 pub struct Ends {
-    pub leads: bool,
+    pub target: Option<NodeUnit>,
+    // A flag, and `child` no Option: `split_tree`, an equation on any arrays, reads the child also where the path leads nowhere.
     pub leads_to: bool,
-    pub target: NodeUnit,
     pub node: Node,
     pub child: NodeUnit,
     pub below: Node,
@@ -44,17 +35,14 @@ pub struct Ends {
 pub fn ends_of(tree: &[u8; 6656], path: &[u8], c: u8) -> Ends
     ensures { result ≡ ends_in tree.now path.now c }
 {
-    let found = bodies::target(tree, path);
-    let target = bodies::unit_of(found);
-    let leads = bodies::is_found(found);
-    let node = counting::read_node(tree, target);
+    let target = bodies::target(tree, path);
+    let node = counting::read_node(tree, target.unwrap_or(NodeUnit(NodeUnit::NONE)));
+    let leads_to = target.is_some() && path::has_child(node, c);
     let child = path::child_at(node, c);
     let below = counting::read_node(tree, child);
-    let leads_to = both(leads, path::has_child(node, c));
     Ends {
-        leads,
-        leads_to,
         target,
+        leads_to,
         node,
         child,
         below,
@@ -68,16 +56,13 @@ pub fn fresh_units(map: &[u64; 4], path: &[u8], new: &[u8]) -> bool
     ensures { result ≡ fresh_in map.now (path.now ++ new.now) }
 {
     let mut seen = *map;
-    if allocation::fresh_run(&mut seen, path) {
-        return allocation::fresh_run(&mut seen, new);
-    }
-    false
+    allocation::fresh_run(&mut seen, path) && allocation::fresh_run(&mut seen, new)
 }
 
 // ---- nodes that come and ways that go
 
 // The nodes on the path as they were, and the topmost copy.
-#[derive(Clone, Copy)]
+#[derive(Clone, Copy, Debug, PartialEq, Eq)]
 pub struct Copied {
     pub spine: [u8; 8],
     pub top: NodeUnit,

@@ -31,7 +31,6 @@ use Rattle.records.specs.Rows.{eight, eight_slice}
 use Rattle.counting.specs.declared.Node.{Node}
 use Rattle.counting.specs.Nodes.{node_in, coded}
 use Rattle.counting.proofs.Counts.{Low}
-use Rattle.path.specs.declared.Found.{Found}
 use Rattle.path.specs.Graph.{found}
 use Rattle.path.proofs.Paths.{node_in_lem}
 use Rattle.tables.specs.Hold.{HoldIs, put_input, coded_input}
@@ -186,7 +185,7 @@ module _ (s : Store) (r : Right s) (a : Arrays) (st : Stands s a) where
 
     node_at_lem : begin_shape body ≡ true → leads s path ≡ true → node_in a.tree (unit_of (begin_target a.tree body)) ≡ coded (node_at s unit)
     node_at_lem h l =
-        ap (λ (f : Found). node_in a.tree (unit_of f)) (target_at h ∙ ap (λ (b : Bool). found b unit) l)
+        ap (λ f. node_in a.tree (unit_of f)) (target_at h ∙ ap (λ (b : Bool). found b unit) l)
         ∙ node_in_lem s a.tree st.tree r.sound unit (at_node s path r.sound (eq→T (leads s path) l)).named
 
     slot_of : begin_shape body ≡ true → get_or body 0 0 < compactor_count

@@ -1,14 +1,14 @@
 -- Compact begin and compact abort on the lists of the lent arrays: their tests of the lines 4 to 12, and what they leave.
 -- Assumes nothing.
-use Rattle.std.specs.Prelude.{Bool, true, ◌&&◌, not, List, [], ◌∷◌, ℕ, ◌-◌, eqb, ltb, get_or, take}
+use Rattle.std.specs.Prelude.{Bool, true, ◌&&◌, not, Option, List, [], ◌∷◌, ℕ, ◌-◌, eqb, ltb, get_or, take}
 use Rattle.units.specs.Limits.{compactor_count}
 use Rattle.units.specs.Bodies.{indexes}
+use Rattle.units.specs.declared.NodeUnit.{NodeUnit}
 use Rattle.rules.specs.Tables.{slice}
 use Rattle.rules.specs.Steps.{path_shape}
 use Rattle.records.specs.Rows.{eight}
 use Rattle.counting.specs.declared.Node.{Node}
 use Rattle.counting.specs.Nodes.{node_in}
-use Rattle.path.specs.declared.Found.{Found}
 use Rattle.tables.specs.declared.Input.{Input}
 use Rattle.tables.specs.Hold.{input_in, put_input, coded_input}
 use Rattle.shapes.specs.Questions.{part_fits}
@@ -30,7 +30,7 @@ part_of n start end =
 
 -- ---- 8 compact begin; the body is compactor, depth, indexes, start, end
 
-unfoldable pub begin_target : List ℕ → List ℕ → Found
+unfoldable pub begin_target : List ℕ → List ℕ → Option NodeUnit
 begin_target tree body = target_in tree (take (used_of (get_or body 1 0)) (slice 2 indexes body))
 
 unfoldable pub begin_shape : List ℕ → Bool

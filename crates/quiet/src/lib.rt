@@ -2,7 +2,7 @@
 // lines 4 to 12, and the accepted step. Every function is right on any arrays.
 #![tactic(auto)]
 
-ghost use Rattle.std.specs.Prelude.{◌≡◌, ◌&&◌, [], ◌∷◌, length};
+ghost use Rattle.std.specs.Prelude.{◌≡◌, [], ◌∷◌, length};
 ghost use Rattle.units.specs.Bodies.{body_length};
 ghost use Rattle.held_map.specs.Map.{mark};
 ghost use Rattle.quiet.specs.Slots.{not_empty, is_open_slot, has_room, keeps_some};
@@ -11,9 +11,8 @@ ghost use Rattle.quiet.specs.Inputs.{is_busy, is_idle, part_of};
 ghost use Rattle.quiet.specs.Inputs.{begin_target, begin_shape, begin_tests, begin_hold, abort_tests, abort_hold, abort_map};
 
 use counting::Node;
-use path::Found;
 use tables::{Input, Slot};
-use units::{CompactorSlot, SlotNumber, UnfinishedSlot};
+use units::{CompactorSlot, NodeUnit, SlotNumber, UnfinishedSlot};
 
 // ---- an unfinished slot by value
 
@@ -150,17 +149,8 @@ fn part_of(n: Node, start: u8, end: u8) -> Input
 
 // ---- 8 compact begin; the body is compactor, depth, seven indexes, start, end
 
-fn both(a: bool, b: bool) -> bool
-    ensures { result ≡ (a && b) }
-{
-    if a {
-        return b;
-    }
-    false
-}
-
 // The node that the body's path leads to.
-fn begin_target(tree: &[u8; 6656], body: &[u8]) -> Found
+fn begin_target(tree: &[u8; 6656], body: &[u8]) -> Option<NodeUnit>
     requires { length body.now ≡ body_length 8 }
     ensures { result ≡ begin_target tree.now body.now }
 {
@@ -174,9 +164,7 @@ fn begin_shape(body: &[u8]) -> bool
     ensures { result ≡ begin_shape body.now }
 {
     let k = CompactorSlot(body[0]);
-    let exists = k.exists();
-    let indexed = bodies::index_shape(body[1], &body[2..9]);
-    both(exists, indexed)
+    k.exists() && bodies::index_shape(body[1], &body[2..9])
 }
 
 pub fn begin_tests(tree: &[u8; 6656], hold: &[u8; 2380], body: &[u8]) -> [bool; 9]
@@ -187,8 +175,8 @@ pub fn begin_tests(tree: &[u8; 6656], hold: &[u8; 2380], body: &[u8]) -> [bool; 
     let x = tables::read_input(hold, CompactorSlot(body[0]));
     let idle = is_idle(x);
     let found = begin_target(tree, body);
-    let leads = bodies::is_found(found);
-    let n = counting::read_node(tree, bodies::unit_of(found));
+    let leads = found.is_some();
+    let n = counting::read_node(tree, found.unwrap_or(NodeUnit(NodeUnit::NONE)));
     let range = shapes::part_fits(n, body[9], body[10]);
     [shape, idle, leads, range, true, true, true, true, true]
 }
@@ -199,7 +187,7 @@ pub fn begin(tree: &[u8; 6656], hold: &mut [u8; 2380], body: &[u8])
     ensures { hold.new ≡ begin_hold tree.now hold.old body.now }
 {
     let found = begin_target(tree, body);
-    let n = counting::read_node(tree, bodies::unit_of(found));
+    let n = counting::read_node(tree, found.unwrap_or(NodeUnit(NodeUnit::NONE)));
     let part = part_of(n, body[9], body[10]);
     tables::write_input(hold, CompactorSlot(body[0]), part);
 }

@@ -22,7 +22,7 @@ pub fn split_tests(tree: &[u8; 6656], counts: &[u16; 512], map: &[u64; 4], body:
     let m = ends.below;
     let buffers = m.buffers;
     let units = [body[17], body[18], body[19]];
-    let shape = pathed::both(bodies::path_shape(d, is, fs), pathed::is_index(c));
+    let shape = bodies::path_shape(d, is, fs) && pathed::is_index(c);
     let range = shapes::split_share_fits(m, body[16]);
     let small = shapes::room_for_child(n);
     let fresh = pathed::fresh_units(map, &fs[..k], &units);
@@ -64,6 +64,7 @@ pub fn split(tree: &mut [u8; 6656], counts: &mut [u16; 512], map: &mut [u64; 4],
     counting::add_node(tree, counts, f, shapes::split_parent(n, c, l, r));
     counting::add_node(tree, counts, l, shapes::left_of(m, a));
     counting::add_node(tree, counts, r, shapes::right_of(m, a));
-    pathed::leave(tree, counts, map, copied, ends.target, ends.child);
+    let target = ends.target.unwrap_or(NodeUnit(NodeUnit::NONE));
+    pathed::leave(tree, counts, map, copied, target, ends.child);
     counting::add_places(counts, counting::part(&m.buffers, 0, m.buffer_number));
 }

@@ -1,19 +1,13 @@
-use Rattle.std.proofs.Common.{rules, arith}
+use Rattle.std.proofs.Common.{arith, rules}
 use Rattle.path.proofs.Walks.{path_turn, path_end}
 use Rattle.path.proofs.spine_of.Goals as goal
 
-pub loop-i-preserved : goal.loop-i-preserved
-loop-i-preserved c = record {
-  within = omega arith;
-  few = omega arith;
-  short = omega arith;
+pub loop-k-preserved : goal.loop-k-preserved
+loop-k-preserved c = record {
+  few = c.loop-k.invariant.few;
   eight_units = search rules;
-  on_path =
-      path_turn c.args.tree.now c.args.path.now c.args.u.0 c.loop-i.i c.loop-i.units c.loop-i.at c.read_node-n.result c.child_at-below.result.0
-      (omega arith) (omega arith) c.loop-i.invariant.on_path c.read_node-n.ensures c.child_at-below.ensures;
+  on_path = path_turn _ _ _ _ _ _ _ _ c.loop-k-test.true (omega (arith, c.loop-k.invariant.few)) c.loop-k.invariant.on_path c.read_node-n.ensures c.child_at-at.ensures;
 }
 
 pub returns : goal.returns
-returns c =
-    path_end c.args.tree.now c.args.path.now c.args.u.0 c.loop-i.i c.loop-i.units c.loop-i.at (omega (arith, c.index_number-end.ensures.2))
-    c.loop-i.invariant.on_path
+returns c = path_end _ _ _ _ _ _ _ c.min-end.ensures c.loop-k-test.false c.loop-k.invariant.on_path

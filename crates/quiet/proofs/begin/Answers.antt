@@ -3,4 +3,4 @@ use Rattle.quiet.proofs.begin.Goals as goal
 
 pub returns : goal.returns
 unfolding begin_hold
-returns c = rw (← c.begin_target-found.ensures, ← c.unit_of.ensures, ← c.read_node-n.ensures, ← c.part_of-part.ensures) c.write_input.ensures
+returns c = rw (c.write_input.ensures, c.part_of-part.ensures, c.read_node-n.ensures, c.unwrap_or.ensures, c.begin_target-found.ensures)
