@@ -2,14 +2,18 @@
 // go. The body has 19 bytes: depth, seven indexes, seven fresh units, child, number of buffers that go, units of parent and new child.
 #![tactic(auto)]
 
-ghost use Rattle.std.specs.Prelude.{◌≡◌, length};
+ghost use Rattle.std.specs.Prelude.{◌≡◌};
 ghost use Rattle.flushing.specs.Flush.{flush_tests, flush_tree, flush_counts, flush_hold, flush_map};
 
 use units::NodeUnit;
 
 // The tests of the lines 4 to 12; a node that is not there is read at unit 0, where an earlier line has failed.
-pub fn flush_tests(tree: &[u8; 6656], counts: &[u16; 512], map: &[u64; 4], body: &[u8]) -> [bool; 9]
-    requires { length body.now ≡ 19 }
+pub fn flush_tests(
+    tree: &[u8; 6656],
+    counts: &[u16; 512],
+    map: &[u64; 4],
+    body: &[u8; 19],
+) -> [bool; 9]
     ensures { result ≡ flush_tests tree.now counts.now map.now body.now }
 {
     let d = body[0];
@@ -49,9 +53,8 @@ pub fn flush(
     counts: &mut [u16; 512],
     hold: &mut [u8; 2380],
     map: &mut [u64; 4],
-    body: &[u8],
+    body: &[u8; 19],
 )
-    requires { length body.now ≡ 19 }
     ensures tree { tree.new ≡ flush_tree tree.old counts.old body.now }
     ensures counts { counts.new ≡ flush_counts tree.old counts.old body.now }
     ensures hold { hold.new ≡ flush_hold tree.old counts.old hold.old body.now }

@@ -2,8 +2,7 @@
 // lines 4 to 12, and the accepted step. Every function is right on any arrays.
 #![tactic(auto)]
 
-ghost use Rattle.std.specs.Prelude.{◌≡◌, [], ◌∷◌, length};
-ghost use Rattle.units.specs.Bodies.{body_length};
+ghost use Rattle.std.specs.Prelude.{◌≡◌, [], ◌∷◌};
 ghost use Rattle.held_map.specs.Map.{mark};
 ghost use Rattle.quiet.specs.Slots.{not_empty, is_open_slot, has_room, keeps_some};
 ghost use Rattle.quiet.specs.Slots.{take_tests, take_hold, seal_tests, seal_hold, seal_map, abandon_tests, abandon_hold, abandon_map};
@@ -150,8 +149,7 @@ fn part_of(n: Node, start: u8, end: u8) -> Input
 // ---- 8 compact begin; the body is compactor, depth, seven indexes, start, end
 
 // The node that the body's path leads to.
-fn begin_target(tree: &[u8; 6656], body: &[u8]) -> Option<NodeUnit>
-    requires { length body.now ≡ body_length 8 }
+fn begin_target(tree: &[u8; 6656], body: &[u8; 11]) -> Option<NodeUnit>
     ensures { result ≡ begin_target tree.now body.now }
 {
     let k = bodies::used(body[1]);
@@ -159,16 +157,14 @@ fn begin_target(tree: &[u8; 6656], body: &[u8]) -> Option<NodeUnit>
     bodies::target(tree, &is[..k])
 }
 
-fn begin_shape(body: &[u8]) -> bool
-    requires { length body.now ≡ body_length 8 }
+fn begin_shape(body: &[u8; 11]) -> bool
     ensures { result ≡ begin_shape body.now }
 {
     let k = CompactorSlot(body[0]);
     k.exists() && bodies::index_shape(body[1], &body[2..9])
 }
 
-pub fn begin_tests(tree: &[u8; 6656], hold: &[u8; 2380], body: &[u8]) -> [bool; 9]
-    requires { length body.now ≡ body_length 8 }
+pub fn begin_tests(tree: &[u8; 6656], hold: &[u8; 2380], body: &[u8; 11]) -> [bool; 9]
     ensures { result ≡ begin_tests tree.now hold.now body.now }
 {
     let shape = begin_shape(body);
@@ -182,8 +178,7 @@ pub fn begin_tests(tree: &[u8; 6656], hold: &[u8; 2380], body: &[u8]) -> [bool; 
 }
 
 // The buffers become the compactor's input.
-pub fn begin(tree: &[u8; 6656], hold: &mut [u8; 2380], body: &[u8])
-    requires { length body.now ≡ body_length 8 }
+pub fn begin(tree: &[u8; 6656], hold: &mut [u8; 2380], body: &[u8; 11])
     ensures { hold.new ≡ begin_hold tree.now hold.old body.now }
 {
     let found = begin_target(tree, body);

@@ -2,14 +2,18 @@
 // others. The body has 20 bytes: depth, seven indexes, seven fresh units, child, share, and the units of parent, left and right.
 #![tactic(auto)]
 
-ghost use Rattle.std.specs.Prelude.{◌≡◌, length};
+ghost use Rattle.std.specs.Prelude.{◌≡◌};
 ghost use Rattle.splitting.specs.Split.{split_tests, split_tree, split_counts, split_map};
 
 use units::NodeUnit;
 
 // The tests of the lines 4 to 12; a node that is not there is read at unit 0, where an earlier line has failed.
-pub fn split_tests(tree: &[u8; 6656], counts: &[u16; 512], map: &[u64; 4], body: &[u8]) -> [bool; 9]
-    requires { length body.now ≡ 20 }
+pub fn split_tests(
+    tree: &[u8; 6656],
+    counts: &[u16; 512],
+    map: &[u64; 4],
+    body: &[u8; 20],
+) -> [bool; 9]
     ensures { result ≡ split_tests tree.now counts.now map.now body.now }
 {
     let d = body[0];
@@ -42,8 +46,7 @@ pub fn split_tests(tree: &[u8; 6656], counts: &[u16; 512], map: &[u64; 4], body:
 }
 
 // Carries an accepted split out.
-pub fn split(tree: &mut [u8; 6656], counts: &mut [u16; 512], map: &mut [u64; 4], body: &[u8])
-    requires { length body.now ≡ 20 }
+pub fn split(tree: &mut [u8; 6656], counts: &mut [u16; 512], map: &mut [u64; 4], body: &[u8; 20])
     ensures tree { tree.new ≡ split_tree tree.old counts.old body.now }
     ensures counts { counts.new ≡ split_counts tree.old counts.old body.now }
     ensures map { map.new ≡ split_map tree.old counts.old map.old body.now }
