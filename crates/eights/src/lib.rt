@@ -26,12 +26,12 @@ fn moved_offset(o: u8, start: u8, end: u8) -> u8
 
 // How many there are of `number` when from `at` on `gone` go and `come` come; at most eight.
 #[tactic(auto, unfolding(counting::specs::Places::up_to))]
-pub fn number_after(number: u8, at: u8, gone: u8, come: u8) -> u8
+pub fn number_after(number: u8, at: u8, gone: u8, come: usize) -> u8
     ensures { result ≡ number_after number at gone come }
 {
     let start = at as usize;
     let left = (number as usize).saturating_sub(start + gone as usize);
-    (start + come as usize + left).min(8) as u8
+    (start + come.min(8) + left).min(8) as u8
 }
 
 // ---- places

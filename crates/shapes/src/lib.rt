@@ -35,11 +35,10 @@ use units::{BranchRoot, NodeUnit};
 // From `at` on, `gone` buffers go and `come` comes.
 #[tactic(auto, unfolding(crate::specs::Shapes::replace_buffers))]
 fn replace_buffers(n: Node, at: u8, gone: u8, come: &[u8]) -> Node
-    requires { length come.now ≤ 8 }
     ensures { result ≡ replace_buffers n at gone come.now }
 {
     Node {
-        buffer_number: eights::number_after(n.buffer_number, at, gone, come.len() as u8),
+        buffer_number: eights::number_after(n.buffer_number, at, gone, come.len()),
         buffers: eights::replace(n.buffers, at, gone, come),
         ..n
     }
@@ -48,11 +47,10 @@ fn replace_buffers(n: Node, at: u8, gone: u8, come: &[u8]) -> Node
 // The same of the children with their offsets, one for each.
 #[tactic(auto, unfolding(crate::specs::Shapes::replace_children))]
 fn replace_children(n: Node, at: u8, gone: u8, children: &[u8], offsets: &[u8]) -> Node
-    requires { length children.now ≤ 8 }
     ensures { result ≡ replace_children n at gone children.now offsets.now }
 {
     Node {
-        child_number: eights::number_after(n.child_number, at, gone, children.len() as u8),
+        child_number: eights::number_after(n.child_number, at, gone, children.len()),
         children: eights::replace(n.children, at, gone, children),
         offsets: eights::replace(n.offsets, at, gone, offsets),
         ..n
