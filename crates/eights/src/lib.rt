@@ -29,8 +29,8 @@ fn moved_offset(o: u8, start: u8, end: u8) -> u8
 pub fn number_after(number: u8, at: u8, gone: u8, come: usize) -> u8
     ensures { result ≡ number_after number at gone come }
 {
-    let start = at as usize;
-    let left = (number as usize).saturating_sub(start + gone as usize);
+    let start = usize::from(at);
+    let left = usize::from(number).saturating_sub(start + usize::from(gone));
     (start + come.min(8) + left).min(8) as u8
 }
 
@@ -47,14 +47,14 @@ fn replace_place(xs: [u8; 8], at: u8, gone: u8, come: &[u8], j: usize) -> u8
     requires { j < 8 }
     ensures { result ≡ get_or (replaced xs at gone come.now) j 0 }
 {
-    let start = at as usize;
+    let start = usize::from(at);
     if j < start {
         return place(xs, j);
     }
     if j < start + come.len() {
         return come[j - start];
     }
-    place(xs, j - come.len() + gone as usize)
+    place(xs, j - come.len() + usize::from(gone))
 }
 
 pub fn replace(xs: [u8; 8], at: u8, gone: u8, come: &[u8]) -> [u8; 8]

@@ -18,7 +18,7 @@ use units::NodeUnit;
 pub fn child_at(n: Node, i: u8) -> NodeUnit
     ensures { result.0 ≡ get_or n.children i 0 }
 {
-    let child = n.children.get(i as usize).copied();
+    let child = n.children.get(usize::from(i)).copied();
     NodeUnit(child.unwrap_or(NodeUnit::NONE))
 }
 
@@ -34,7 +34,7 @@ pub fn with_child(mut n: Node, i: u8, c: NodeUnit) -> Node
     ensures { result ≡ with_child n i c.0 }
 {
     if i < 8 {
-        n.children[i as usize] = c.0;
+        n.children[usize::from(i)] = c.0;
     }
     n
 }

@@ -96,24 +96,23 @@ pub buffers_turn : (bs t₀ t t' : List ℕ) (i : ℕ) → i < length bs → Lef
 buffers_turn bs t₀ t t' i h v o =
     sym (next (place_of (get_or bs i 0) ∷ []) (places_of (drop (i + 1) bs)) t t' o) ∙ ap (counted t) (sym (buffers_from bs i h)) ∙ v
 
-pub buffers_over : (n : ℕ) (l bs t₀ t t' : List ℕ) (i : ℕ) {e : Refusal} {r : Answer} → bs ≡ slice 0 (n - 0) l → i < length bs → Left bs t₀ t i
-    → Outcome (counted t (place_of (get_or bs i 0) ∷ [])) t' (Err e) → r ≡ Err e → Outcome (counted t₀ (places_of (take n l))) t' r
-buffers_over n l bs t₀ t t' i {e} {r} q h v o p =
-    rw (← part_whole n l bs q)
-    (on t' r (sym v ∙ ap (counted t) (buffers_from bs i h)) (halt (place_of (get_or bs i 0) ∷ []) (places_of (drop (i + 1) bs)) t t' o p))
+pub buffers_over : (bs t₀ t t' : List ℕ) (i : ℕ) {e : Refusal} {r : Answer} → i < length bs → Left bs t₀ t i → Outcome (counted t (place_of (get_or bs i 0) ∷ [])) t' (Err e)
+    → r ≡ Err e → Outcome (counted t₀ (places_of bs)) t' r
+buffers_over bs t₀ t t' i {e} {r} h v o p = on t' r (sym v ∙ ap (counted t) (buffers_from bs i h)) (halt (place_of (get_or bs i 0) ∷ []) (places_of (drop (i + 1) bs)) t t' o p)
 
-pub buffers_end : (n : ℕ) (l bs t₀ t : List ℕ) (i : ℕ) → bs ≡ slice 0 (n - 0) l → length bs ≤ i → Left bs t₀ t i → Outcome (counted t₀ (places_of (take n l))) t (Ok tt)
+pub buffers_end : (bs t₀ t : List ℕ) (i : ℕ) → length bs ≤ i → Left bs t₀ t i → Outcome (counted t₀ (places_of bs)) t (Ok tt)
 unfolding counted
-buffers_end n l bs t₀ t i q h v =
+buffers_end bs t₀ t i h v =
     let z : drop i bs ≡ [] = drop_of_length-le bs {i = i} h in
-    rw (← part_whole n l bs q) (on {o' = some t} t (Ok tt) (sym v ∙ ap (λ (l : List ℕ). counted t (places_of l)) z) (refl, refl))
+    on {o' = some t} t (Ok tt) (sym v ∙ ap (λ (l : List ℕ). counted t (places_of l)) z) (refl, refl)
 
 -- ---- one node
 
-pub node_on : (tree : List ℕ) (u : ℕ) (n : Node) (t t' t'' : List ℕ) (r : Answer) → Outcome (counted t (u ∷ [])) t' (Ok tt) → n ≡ node_in tree u
-    → Outcome (counted t' (places_of (take n.buffer_number n.buffers))) t'' r → Outcome (counted t (visit_of tree u)) t'' r
-node_on tree u n t t' t'' r o en o' =
-    on t'' r (next (u ∷ []) (places_of (buffers_in tree u)) t t' o) (rw (node_buffers tree u n en).1 at o')
+pub node_on : (tree : List ℕ) (u : ℕ) (n : Node) (bs t t' t'' : List ℕ) (r : Answer) → Outcome (counted t (u ∷ [])) t' (Ok tt) → n ≡ node_in tree u
+    → bs ≡ slice 0 (n.buffer_number - 0) n.buffers → Outcome (counted t' (places_of bs)) t'' r → Outcome (counted t (visit_of tree u)) t'' r
+node_on tree u n bs t t' t'' r o en eb o' =
+    let same : bs ≡ buffers_in tree u = part_whole n.buffer_number n.buffers bs eb ∙ (node_buffers tree u n en).1 in
+    on t'' r (next (u ∷ []) (places_of (buffers_in tree u)) t t' o) (rw same at o')
 
 -- ---- the walks
 

@@ -2,7 +2,7 @@
 // every tree, right or not: the depth bounds the walk.
 #![tactic(auto)]
 
-ghost use Rattle.std.specs.Prelude.{◌<◌, List, [], ◌∷◌, take};
+ghost use Rattle.std.specs.Prelude.{◌<◌, List, [], ◌∷◌};
 ghost use Rattle.ways.specs.Ways.{visits, flat};
 ghost use Rattle.counting.specs.Graph.{children_in};
 ghost use Rattle.recount.specs.Walks.{Outcome, counted, places_of, visit_of, counts_of};
@@ -23,10 +23,10 @@ fn count_one(counts: &mut [u16; 512], at: usize) -> Result<(), Refusal>
 }
 
 // One more place for each of the buffers.
-fn count_buffers(counts: &mut [u16; 512], buffers: [u8; 8], number: u8) -> Result<(), Refusal>
-    ensures { Outcome (counted counts.old (places_of (take number buffers))) counts.new result }
+fn count_buffers(counts: &mut [u16; 512], buffers: &[u8]) -> Result<(), Refusal>
+    ensures { Outcome (counted counts.old (places_of buffers.now)) counts.new result }
 {
-    for &b in counting::part(&buffers, 0, number) {
+    for &b in buffers {
         count_one(counts, counting::PLACES + BranchRoot(b).index())?;
     }
     Ok(())
@@ -38,7 +38,8 @@ fn count_node(tree: &[u8; 6656], counts: &mut [u16; 512], u: NodeUnit) -> Result
 {
     count_one(counts, u.index())?;
     let n = counting::read_node(tree, u);
-    count_buffers(counts, n.buffers, n.buffer_number)
+    let buffers = counting::part(&n.buffers, 0, n.buffer_number);
+    count_buffers(counts, buffers)
 }
 
 // The node and all below it, as far down as the depth.

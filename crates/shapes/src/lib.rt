@@ -61,7 +61,7 @@ fn replace_children(n: Node, at: u8, gone: u8, children: &[u8], offsets: &[u8]) 
 pub fn offset_of(n: Node, c: u8) -> u8
     ensures { result ≡ get_or n.offsets c 0 }
 {
-    eights::place(n.offsets, c as usize)
+    eights::place(n.offsets, usize::from(c))
 }
 
 // ---- nodes that come
@@ -209,5 +209,5 @@ pub fn flush_room(n: Node, m: Node, c: u8) -> bool
     ensures { result ≡ flush_room n m c }
 {
     let gained = n.buffer_number.saturating_sub(offset_of(n, c));
-    m.buffer_number as usize + gained as usize <= 8
+    usize::from(m.buffer_number) + usize::from(gained) <= 8
 }

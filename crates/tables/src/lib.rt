@@ -77,7 +77,7 @@ fn slot_row(x: Slot) -> [u8; SLOT_ROW]
 pub fn read_branch(hold: &[u8; 2380], b: BranchRoot) -> Branch
     ensures { result ≡ branch_in hold.now b.0 }
 {
-    let at = b.0 as usize * LIST_ROW;
+    let at = usize::from(b.0) * LIST_ROW;
     Branch {
         number: hold[at],
         units: records::eight(hold, at + 1),
@@ -88,7 +88,7 @@ pub fn read_branch(hold: &[u8; 2380], b: BranchRoot) -> Branch
 pub fn write_branch(hold: &mut [u8; 2380], b: BranchRoot, x: Branch)
     ensures { hold.new ≡ put_branch hold.old b.0 x }
 {
-    records::pour(hold, b.0 as usize * LIST_ROW, &list_row(x.number, x.units));
+    records::pour(hold, usize::from(b.0) * LIST_ROW, &list_row(x.number, x.units));
 }
 
 pub fn blank_branch(hold: &mut [u8; 2380], b: BranchRoot)
@@ -106,7 +106,7 @@ pub fn read_slot(hold: &[u8; 2380], k: UnfinishedSlot) -> Slot
     if k.0 >= UnfinishedSlot::COUNT {
         return Slot::default();
     }
-    let at = SLOTS + k.0 as usize * SLOT_ROW;
+    let at = SLOTS + usize::from(k.0) * SLOT_ROW;
     Slot {
         state: hold[at],
         number: hold[at + 1],
@@ -119,7 +119,7 @@ pub fn write_slot(hold: &mut [u8; 2380], k: UnfinishedSlot, x: Slot)
     ensures { hold.new ≡ put_slot hold.old k.0 x }
 {
     if k.0 < UnfinishedSlot::COUNT {
-        records::pour(hold, SLOTS + k.0 as usize * SLOT_ROW, &slot_row(x));
+        records::pour(hold, SLOTS + usize::from(k.0) * SLOT_ROW, &slot_row(x));
     }
 }
 
@@ -135,7 +135,7 @@ pub fn taken(mut x: Slot, u: u8) -> Slot
     ensures { result ≡ taken_slot x u }
 {
     if x.number < 8 {
-        x.units[x.number as usize] = u;
+        x.units[usize::from(x.number)] = u;
         x.number += 1;
         x.state = Slot::OPEN;
     }
@@ -147,7 +147,7 @@ pub fn taken(mut x: Slot, u: u8) -> Slot
 fn first(mut us: [u8; 8], n: u8) -> [u8; 8]
     ensures { result ≡ front us n }
 {
-    us[n.min(8) as usize..].fill(0);
+    us[usize::from(n).min(8)..].fill(0);
     us
 }
 
@@ -171,7 +171,7 @@ pub fn read_input(hold: &[u8; 2380], k: CompactorSlot) -> Input
     if k.0 >= CompactorSlot::COUNT {
         return Input::default();
     }
-    let at = INPUTS + k.0 as usize * LIST_ROW;
+    let at = INPUTS + usize::from(k.0) * LIST_ROW;
     Input {
         number: hold[at],
         roots: records::eight(hold, at + 1),
@@ -185,7 +185,7 @@ pub fn write_input(hold: &mut [u8; 2380], k: CompactorSlot, x: Input)
     if k.0 < CompactorSlot::COUNT {
         records::pour(
             hold,
-            INPUTS + k.0 as usize * LIST_ROW,
+            INPUTS + usize::from(k.0) * LIST_ROW,
             &list_row(x.number, x.roots),
         );
     }
@@ -201,7 +201,7 @@ pub fn end_input(hold: &mut [u8; 2380], k: CompactorSlot)
 pub fn among(places: [u8; 8], number: u8, u: u8) -> bool
     ensures { result ≡ has u (take number places) }
 {
-    places[..number.min(8) as usize].contains(&u)
+    places[..usize::from(number).min(8)].contains(&u)
 }
 
 // Whether the branch is among the roots of the input.

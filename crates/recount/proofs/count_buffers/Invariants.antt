@@ -3,4 +3,4 @@ use Rattle.recount.proofs.Turns.{Left}
 use Rattle.recount.proofs.count_buffers.Given as goal
 
 abbrev pub invariant-loop-b : goal.invariant-loop-b
-invariant-loop-b l = Left l.b-items l.fn.counts l.counts l.b-index
+invariant-loop-b l = Left l.buffers l.fn.counts l.counts l.b-index

@@ -11,5 +11,5 @@ returns-in_err-count_one c =
 
 pub returns : goal.returns
 returns c =
-    node_on c.args.tree.now c.args.u.0 c.read_node-n.result c.args.counts.now c.count_one.new.counts c.count_buffers.new.counts c.count_buffers.result
-    (rw c.index.ensures.0 at c.in_ok-count_one.ensures) c.read_node-n.ensures c.count_buffers.ensures
+    node_on c.args.tree.now c.args.u.0 c.read_node-n.result c.part-buffers.result.now c.args.counts.now c.count_one.new.counts c.count_buffers.new.counts c.count_buffers.result
+    (rw c.index.ensures.0 at c.in_ok-count_one.ensures) c.read_node-n.ensures c.part-buffers.ensures c.count_buffers.ensures
