@@ -25,7 +25,7 @@ pub fn is_blank(us: &[u8]) -> bool
 pub fn used(d: u8) -> usize
     ensures { (result ≤ indexes) × (result ≡ used_of d) }
 {
-    usize::from(d).min(7)
+    (d as usize).min(7)
 }
 
 // Line 4 of a depth and its indexes: used ones are indexes, the others 0.
@@ -33,7 +33,7 @@ pub fn index_shape(d: u8, is: &[u8]) -> bool
     requires { length is.now ≡ indexes }
     ensures { result ≡ path_shape d is.now [] }
 {
-    let k = usize::from(d);
+    let k = d as usize;
     k <= 7 && are_indexes(&is[..k]) && is_blank(&is[k..])
 }
 

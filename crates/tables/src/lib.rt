@@ -88,7 +88,11 @@ pub fn read_branch(hold: &[u8; 2380], b: BranchRoot) -> Branch
 pub fn write_branch(hold: &mut [u8; 2380], b: BranchRoot, x: Branch)
     ensures { hold.new ≡ put_branch hold.old b.0 x }
 {
-    records::pour(hold, usize::from(b.0) * LIST_ROW, &list_row(x.number, x.units));
+    records::pour(
+        hold,
+        usize::from(b.0) * LIST_ROW,
+        &list_row(x.number, x.units),
+    );
 }
 
 pub fn blank_branch(hold: &mut [u8; 2380], b: BranchRoot)
