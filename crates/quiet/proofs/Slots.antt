@@ -20,7 +20,7 @@ use Rattle.right.proofs.Lists.{all_get}
 use Rattle.right.proofs.Ledger.{fresh_unit}
 use Rattle.right.proofs.Steps.{Even, passed}
 use Rattle.lines.specs.Lines.{tests_of, Agree}
-use Rattle.held_map.specs.Map.{mark, clears}
+use Rattle.held_map.specs.Map.{mark}
 use Rattle.records.specs.Rows.{eight, eight_pad}
 use Rattle.tables.specs.declared.Slot.{Slot}
 use Rattle.tables.specs.Hold.{slot_in, coded_slot}
@@ -32,11 +32,6 @@ use Rattle.allocation.proofs.Fresh.{fresh_is}
 use Rattle.eights.specs.Eights.{replaced}
 use Rattle.quiet.specs.Slots.{not_empty, is_open_slot, has_room, keeps_some, take_tests, take_hold, seal_tests, seal_hold, seal_map, abandon_tests, abandon_hold, abandon_map}
 use Rattle.quiet.proofs.Quiet.{quiet_fit, slot_lets_go, slot_takes}
-
--- what the code of seal leaves in the map
-pub seal_map_lem : (hold map map' gone : List ℕ) (k n : ℕ) (x : Slot) → x ≡ slot_in hold k → gone ≡ eight (replaced x.units 0 n []) → map' ≡ clears map gone → map' ≡ seal_map hold map k n
-unfolding seal_map
-seal_map_lem hold map map' gone k n x ex eg em = em ∙ ap (clears map) (eg ∙ ap (λ (y : Slot). eight (replaced y.units 0 n [])) ex)
 
 -- a slot has at most eight units
 slot_few : (s : Store) → Right s → (k : ℕ) → length (slot_units (slot_at s k)) ≤ room

@@ -1,4 +1,3 @@
-pub mod Calls
 pub mod Slots
 pub mod Roots
 pub mod Flushed

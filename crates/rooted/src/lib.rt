@@ -3,7 +3,6 @@
 #![tactic(auto)]
 
 ghost use Rattle.std.specs.Prelude.{◌≡◌, [], ◌∷◌, eqb, get_or, set};
-ghost use Rattle.rules.specs.Steps.{is_slot};
 ghost use Rattle.held_map.specs.Map.{mark};
 ghost use Rattle.counting.specs.Nodes.{put_node};
 ghost use Rattle.tables.specs.Hold.{slot_in};
@@ -12,8 +11,8 @@ ghost use Rattle.rooted.specs.Memtable.{memtable_tests, memtable_tree, memtable_
 ghost use Rattle.rooted.specs.Grow.{grow_tests, grow_tree};
 
 use counting::Node;
-use tables::Branch;
-use units::{BranchRoot, NodeUnit, UnfinishedSlot};
+use tables::{Branch, Slot};
+use units::{BranchRoot, NodeUnit, SlotNumber, UnfinishedSlot, Unit};
 
 // ---- what both kinds need
 
@@ -36,30 +35,24 @@ fn add_held(
 // ---- 4 memtable flush
 
 // The root's node; a bare leaf where the tree is empty.
+#[tactic(auto, unfolding(crate::specs::Memtable::root_node_in))]
 fn root_node(tree: &[u8; 6656]) -> Node
     ensures { result ≡ root_node_in tree.now }
 {
     let root = counting::root(tree);
-    let unit = root.0;
-    if unit == 0 {
-        return shapes::over(NodeUnit(0));
+    if root.is_none() {
+        return Node::default();
     }
     counting::read_node(tree, root)
 }
 
-fn slot_exists(slot: u8) -> bool
-    ensures { result ≡ is_slot slot }
+fn is_sealed(hold: &[u8; 2380], k: UnfinishedSlot) -> bool
+    ensures { result ≡ is_sealed_in hold.now k.0 }
 {
-    slot < UnfinishedSlot::COUNT
+    tables::read_slot(hold, k).state == Slot::SEALED
 }
 
-fn is_sealed(hold: &[u8; 2380], slot: u8) -> bool
-    ensures { result ≡ is_sealed_in hold.now slot }
-{
-    let x = tables::read_slot(hold, UnfinishedSlot(slot));
-    x.state == 2
-}
-
+#[tactic(auto, unfolding(crate::specs::Memtable::memtable_tests))]
 pub fn memtable_tests(
     tree: &[u8; 6656],
     hold: &[u8; 2380],
@@ -69,8 +62,9 @@ pub fn memtable_tests(
 ) -> [bool; 9]
     ensures { result ≡ memtable_tests tree.now hold.now map.now slot root }
 {
-    let exists = slot_exists(slot);
-    let sealed = is_sealed(hold, slot);
+    let k = UnfinishedSlot(slot);
+    let exists = k.exists();
+    let sealed = is_sealed(hold, k);
     let n = root_node(tree);
     let small = shapes::room_for_buffer(n);
     let fresh = allocation::is_fresh(map, root);
@@ -78,28 +72,25 @@ pub fn memtable_tests(
 }
 
 // The root of the branch in a slot.
-fn slot_root(hold: &[u8; 2380], slot: u8) -> BranchRoot
-    ensures { result.0 ≡ first_in hold.now slot }
+#[tactic(auto, unfolding(crate::specs::Memtable::first_in))]
+fn slot_root(hold: &[u8; 2380], k: UnfinishedSlot) -> BranchRoot
+    ensures { result.0 ≡ first_in hold.now k.0 }
 {
-    let x = tables::read_slot(hold, UnfinishedSlot(slot));
-    let us = x.units;
-    BranchRoot(us[0])
+    BranchRoot(tables::read_slot(hold, k).units[0])
 }
 
 // The slot's units become a branch, and the slot is empty.
-fn join_branch(hold: &mut [u8; 2380], slot: u8)
-    ensures { hold.new ≡ joined_hold hold.old slot }
+#[tactic(auto, unfolding(crate::specs::Memtable::joined_hold, crate::specs::Memtable::first_in))]
+fn join_branch(hold: &mut [u8; 2380], k: UnfinishedSlot)
+    ensures { hold.new ≡ joined_hold hold.old k.0 }
 {
-    let from = UnfinishedSlot(slot);
-    let b = slot_root(hold, slot);
-    let x = tables::read_slot(hold, from);
-    let number = x.number;
-    let units = x.units;
-    tables::write_branch(hold, b, Branch { number, units });
-    tables::empty_slot(hold, from);
+    let Slot { number, units, .. } = tables::read_slot(hold, k);
+    tables::write_branch(hold, BranchRoot(units[0]), Branch { number, units });
+    tables::empty_slot(hold, k);
 }
 
 // The old root's node, with the slot's branch as its last buffer, is the new root's; the old root loses the way from above.
+#[tactic(auto, unfolding(crate::specs::Memtable::memtable_tree, crate::specs::Memtable::memtable_counts, crate::specs::Memtable::memtable_map))]
 pub fn memtable_flush(
     tree: &mut [u8; 6656],
     counts: &mut [u16; 512],
@@ -113,7 +104,8 @@ pub fn memtable_flush(
     ensures hold { hold.new ≡ joined_hold hold.old slot }
     ensures map { map.new ≡ memtable_map tree.old counts.old map.old root }
 {
-    let b = slot_root(hold, slot);
+    let from = UnfinishedSlot(slot);
+    let b = slot_root(hold, from);
     let old = counting::root(tree);
     let n = root_node(tree);
     let new = shapes::with_buffer(n, b);
@@ -121,11 +113,12 @@ pub fn memtable_flush(
     allocation::let_go(tree, counts, map, old);
     counting::set_root(tree, NodeUnit(root));
     counting::add_place(counts, b);
-    join_branch(hold, slot);
+    join_branch(hold, from);
 }
 
 // ---- 5 grow
 
+#[tactic(auto, unfolding(crate::specs::Grow::grow_tests))]
 pub fn grow_tests(tree: &[u8; 6656], map: &[u64; 4], root: u8) -> [bool; 9]
     ensures { result ≡ grow_tests tree.now map.now root }
 {
@@ -135,6 +128,7 @@ pub fn grow_tests(tree: &[u8; 6656], map: &[u64; 4], root: u8) -> [bool; 9]
 }
 
 // A node above the old root, with no buffers.
+#[tactic(auto, unfolding(crate::specs::Grow::grow_tree))]
 pub fn grow(tree: &mut [u8; 6656], counts: &mut [u16; 512], map: &mut [u64; 4], root: u8)
     ensures tree { tree.new ≡ grow_tree tree.old root }
     ensures counts { counts.new ≡ set counts.old root 1 }
