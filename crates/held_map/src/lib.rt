@@ -3,16 +3,9 @@
 
 ghost use Rattle.std.specs.Prelude.{◌<◌, ◌≤◌, ◌+◌, ◌^◌, ◌≡◌, ◌++◌, length, drop};
 ghost use Rattle.std.specs.Int.Count.{ones, count_trailing_zeros};
-ghost use Rattle.held_map.specs.Bits.{is_set, with_bit, without_bit, Less, LowestZero};
+ghost use Rattle.held_map.specs.Bits.{Less, LowestZero};
 ghost use Rattle.held_map.specs.Map.{held_in, mark, clear, clears, held_number, lowest_free, gone};
 ghost use Rattle.held_map.specs.Lists.{bits_of, four_of, inserted};
-
-fn bit_at(w: u64, k: u8) -> bool
-    requires { k < 64 }
-    ensures { result ≡ is_set w k }
-{
-    (w >> k) % 2 == 1
-}
 
 pub fn one_at(k: u8) -> u64
     requires { k < 64 }
@@ -21,40 +14,24 @@ pub fn one_at(k: u8) -> u64
     1 << k
 }
 
-fn with_bit(w: u64, k: u8) -> u64
-    requires { k < 64 }
-    ensures { result ≡ with_bit w k }
-{
-    w | one_at(k)
-}
-
-fn without_bit(w: u64, k: u8) -> u64
-    requires { k < 64 }
-    ensures { result ≡ without_bit w k }
-{
-    w & !one_at(k)
-}
-
 pub fn has(map: &[u64; 4], u: u8) -> bool
     ensures { result ≡ held_in map.now u }
 {
-    bit_at(map[usize::from(u / 64)], u % 64)
+    map[usize::from(u / 64)] >> (u % 64) & 1 == 1
 }
 
 // The unit is held afterwards, whether it was or not.
 pub fn hold(map: &mut [u64; 4], u: u8)
     ensures { map.new ≡ mark map.old u }
 {
-    let i = usize::from(u / 64);
-    map[i] = with_bit(map[i], u % 64);
+    map[usize::from(u / 64)] |= 1 << (u % 64);
 }
 
 // The unit is not held afterwards, whether it was or not.
 pub fn release(map: &mut [u64; 4], u: u8)
     ensures { map.new ≡ clear map.old u }
 {
-    let i = usize::from(u / 64);
-    map[i] = without_bit(map[i], u % 64);
+    map[usize::from(u / 64)] &= !(1 << (u % 64));
 }
 
 // None of the eight is held afterwards.
@@ -85,7 +62,7 @@ pub fn lowest_free(map: &[u64; 4]) -> u8
     ensures { result ≡ lowest_free map.now }
 {
     for (i, &word) in map.iter().enumerate() {
-        let word = if i == 0 { with_bit(word, 0) } else { word };
+        let word = if i == 0 { word | 1 } else { word };
         let zero = lowest_zero(word);
         if zero < 64 {
             return i as u8 * 64 + zero;
