@@ -3,7 +3,7 @@
 use mathlib.Core.Bool.{Bool, true, false, ◌||◌, ◌&&◌, not, cond}
 use mathlib.Core.Logic.{◌⊎◌, inl, inr, ⊎_elim}
 use mathlib.Core.Path.{◌≡◌, refl, ap, sym, ◌∙◌}
-use Prim.Native.Nat.{ℕ, zero, suc, ◌+◌, ◌-◌, ◌/◌, ◌%◌, ◌^◌, ◌≤◌, ◌<◌, min, max}
+use Prim.Native.Nat.{ℕ, zero, suc, ◌+◌, ◌-◌, ◌*◌, ◌/◌, ◌%◌, ◌^◌, ◌≤◌, ◌<◌, min, max}
 use native.Mathlib.Nat.{pow-suc}
 use native.Mathlib.Omega.{arith}
 use borrow.Author.Tests.{eqb-true, eqb-false, eq-eqb, ne_eqb}
@@ -11,7 +11,7 @@ use Rattle.std.specs.Int.{w64, bit_at}
 use Rattle.std.specs.Int.Bits.{bit_and, bit_or, and_lt}
 use Rattle.std.proofs.Math.Pow.{pow-lt}
 use Rattle.std.proofs.lemmas.Nat.{or_lt}
-use Rattle.std.proofs.lemmas.Nat.Bits.{bit_at_lowest, bit_at-suc, bit_at_and, bit_at_or, bit_at_not, bit_at-pow_same, bit_at-pow_other}
+use Rattle.std.proofs.lemmas.Nat.Bits.{bit_at_lowest, bit_at-suc, bit_at_and, bit_at_or, bit_at_not, bit_at-pow_same, bit_at-pow_other, shr_and_one}
 use lib.Dec.{eqb}
 use Rattle.ways.proofs.Tests.{same_or}
 use Rattle.held_map.specs.Bits.{bit, is_set, with_bit, without_bit, Less}
@@ -69,7 +69,7 @@ add_other (suc k) (suc j) w e d =
 
 -- ---- a bit cleared
 
-pub sub_le : (k w : ℕ) → bit w k ≡ 1 → 2 ^ k ≤ w
+sub_le : (k w : ℕ) → bit w k ≡ 1 → 2 ^ k ≤ w
 sub_le zero w e = omega (arith, bit_zero w)
 sub_le (suc k) w e = let q = sub_le k (w / 2) (sym (bit_suc w k) ∙ e) in omega (arith, pow-suc 2 k)
 
@@ -206,13 +206,24 @@ pow_set k j =
     (λ (n : k ≡ j → ⊥). ap (λ (x : ℕ). eqb x 1) (bit_at-pow_other k j (λ e. n (sym e))) ∙ sym (ne_eqb k j n))
     (same_or k j)
 
--- the two as code has them
-pub with_or : (w k : ℕ) → w < 2 ^ 64 → k < 64 → bit_or w (2 ^ k) ≡ with_bit w k
-with_or w k h l =
-    word_ext 64 (bit_or w (2 ^ k)) (with_bit w k) (or_lt 64 w (2 ^ k) h (pow-lt l)) (with_fits 64 k w h l)
-    (λ j p. more_set w (2 ^ k) j ∙ ap (λ (b : Bool). b || is_set w j) (pow_set k j) ∙ sym (with_set w k j))
+-- the three as code has them
+pub or_set : (w k j : ℕ) → is_set (bit_or w (2 ^ k)) j ≡ (eqb k j || is_set w j)
+or_set w k j = more_set w (2 ^ k) j ∙ ap (λ (b : Bool). b || is_set w j) (pow_set k j)
 
-pub without_and : (w k : ℕ) → w < 2 ^ 64 → k < 64 → bit_and w (18446744073709551615 - 2 ^ k) ≡ without_bit w k
+shl_one : (k : ℕ) → k < 64 → 1 * 2 ^ k % 2 ^ 64 ≡ 2 ^ k
+shl_one k l = let q : 2 ^ k < 2 ^ 64 = pow-lt l in omega (arith, q)
+
+pub set_test : (w k : ℕ) → eqb (bit_and (w / 2 ^ k) 1) 1 ≡ is_set w k
+unfolding bit
+set_test w k = ap (λ (x : ℕ). eqb x 1) (shr_and_one w k)
+
+pub with_or : (w k : ℕ) → w < 2 ^ 64 → k < 64 → bit_or w (1 * 2 ^ k % 2 ^ 64) ≡ with_bit w k
+with_or w k h l =
+    ap (bit_or w) (shl_one k l)
+    ∙ word_ext 64 (bit_or w (2 ^ k)) (with_bit w k) (or_lt 64 w (2 ^ k) h (pow-lt l)) (with_fits 64 k w h l) (λ j p. or_set w k j ∙ sym (with_set w k j))
+
+pub without_and : (w k : ℕ) → w < 2 ^ 64 → k < 64 → bit_and w (18446744073709551615 - 1 * 2 ^ k % 2 ^ 64) ≡ without_bit w k
 without_and w k h l =
-    word_ext 64 (bit_and w (18446744073709551615 - 2 ^ k)) (without_bit w k) (and_lt 64 w (18446744073709551615 - 2 ^ k) h (omega arith)) (without_fits 64 k w h)
+    ap (λ (x : ℕ). bit_and w (18446744073709551615 - x)) (shl_one k l)
+    ∙ word_ext 64 (bit_and w (18446744073709551615 - 2 ^ k)) (without_bit w k) (and_lt 64 w (18446744073709551615 - 2 ^ k) h (omega arith)) (without_fits 64 k w h)
     (λ j p. (less_set w (2 ^ k) (pow-lt l)).bits j p ∙ ap (λ (b : Bool). is_set w j && not b) (pow_set k j) ∙ sym (without_set w k j))

@@ -6,16 +6,17 @@ use Prim.Native.Nat.{ℕ, zero, suc, ◌+◌, ◌-◌, ◌*◌, ◌/◌, ◌%◌
 use native.Mathlib.Omega.{arith}
 use native.Mathlib.Numerals.{add-one}
 use native.Mathlib.Nat.{pow-suc, add-zero}
+use lib.Bits.{bit_and, and_step, and_self}
 use lib.Count.{count_trailing_zeros, under}
 use lib.Dec.{eqb}
-use lib.ListN.{length, get_or, set, drop, length-set, length-append}
+use lib.ListN.{length, get_or, set, drop, length-append}
 use lib.Seq.{set-append_seam, append_snoc}
 use Rattle.rules.specs.Tables.{sift, range}
 use Rattle.rules.specs.Store.{units}
-use Rattle.held_map.specs.Bits.{bit, is_set, Less}
+use Rattle.held_map.specs.Bits.{is_set, Less}
 use Rattle.held_map.specs.Map.{held_in, gone}
 use Rattle.held_map.specs.Lists.{with_low, bits_of, four_of, inserted}
-use Rattle.held_map.proofs.Bits.{bit_zero, bit_suc, sub_le}
+use Rattle.held_map.proofs.Bits.{bit_zero, bit_suc}
 use Rattle.held_map.proofs.Map.{held_word}
 
 -- ---- ranges, sifted
@@ -49,33 +50,30 @@ unfolding bits_of
 bits_none zero b = refl
 bits_none (suc n) b = bits_none n (suc b)
 
--- the lowest set bit goes first, and the others are those of the word without it
-pub record Lowest (n b w t : ℕ) : Type 0 where
-  pub within : t < n
-  pub set_there : bit w t ≡ 1
-  pub front : bits_of n b w ≡ (b + t) ∷ bits_of n b (w - 2 ^ t)
-
-pub lowest : (n b w : ℕ) → 0 < w → w < 2 ^ n → Lowest n b w (count_trailing_zeros n w)
+-- the lowest set bit goes first, and `w & (w - 1)` has the others
+pub lowest : (n b w : ℕ) → 0 < w → w < 2 ^ n → bits_of n b w ≡ (b + count_trailing_zeros n w) ∷ bits_of n b (bit_and w (w - 1))
 unfolding bits_of count_trailing_zeros
 lowest zero b w p h = absurd (omega arith)
 lowest (suc n) b w p h = go (w % 2) refl (λ x y. lowest n (suc b) (w / 2) x y)
   where
-    go : (r : ℕ) → w % 2 ≡ r → (0 < w / 2 → w / 2 < 2 ^ n → Lowest n (suc b) (w / 2) (count_trailing_zeros n (w / 2)))
-        → Lowest (suc n) b w (under (w % 2) (count_trailing_zeros n (w / 2)))
+    go : (r : ℕ) → w % 2 ≡ r
+        → (0 < w / 2 → w / 2 < 2 ^ n → bits_of n (suc b) (w / 2) ≡ (suc b + count_trailing_zeros n (w / 2)) ∷ bits_of n (suc b) (bit_and (w / 2) (w / 2 - 1)))
+        → with_low (w % 2) b (bits_of n (suc b) (w / 2))
+        ≡ (b + under (w % 2) (count_trailing_zeros n (w / 2))) ∷ with_low (bit_and w (w - 1) % 2) b (bits_of n (suc b) (bit_and w (w - 1) / 2))
     go zero e ih =
-        let q = ih (omega arith) (omega (arith, pow-suc 2 n)) in
-        let t = count_trailing_zeros n (w / 2) in
-        let s : bit w (suc t) ≡ 1 = bit_suc w t ∙ q.set_there in
-        let l = sub_le (suc t) w s in
-        let f : (w - 2 ^ suc t) % 2 ≡ 0 = omega (arith, pow-suc 2 t) in
-        let g : (w - 2 ^ suc t) / 2 ≡ w / 2 - 2 ^ t = omega (arith, pow-suc 2 t) in
-        let k : suc b + t ≡ b + suc t = omega arith in
-        rw e (record { within = omega (arith, q.within); set_there = s; front = rw (e, f, g, ← k) q.front })
+        let h' : (w - 1) / 2 ≡ w / 2 - 1 = omega arith in
+        let s : bit_and w (w - 1) ≡ bit_and (w / 2) (w / 2 - 1) * 2 = omega (arith, and_step w (w - 1), ap (bit_and (w / 2)) h') in
+        let f : bit_and w (w - 1) % 2 ≡ 0 = omega (arith, s) in
+        let g : bit_and w (w - 1) / 2 ≡ bit_and (w / 2) (w / 2 - 1) = omega (arith, s) in
+        let k : suc b + count_trailing_zeros n (w / 2) ≡ b + suc (count_trailing_zeros n (w / 2)) = omega arith in
+        rw (e, f, g, ← k) (ih (omega arith) (omega (arith, pow-suc 2 n)))
     go (suc r) e ih =
         let o : w % 2 ≡ 1 = omega arith in
-        let f : (w - 1) % 2 ≡ 0 = omega arith in
-        let g : (w - 1) / 2 ≡ w / 2 = omega arith in
-        rw o (record { within = omega arith; set_there = bit_zero w ∙ o; front = rw (o, f, g, add-zero) refl })
+        let h' : (w - 1) / 2 ≡ w / 2 = omega arith in
+        let s : bit_and w (w - 1) ≡ w / 2 * 2 = omega (arith, and_step w (w - 1), ap (bit_and (w / 2)) h' ∙ and_self (w / 2)) in
+        let f : bit_and w (w - 1) % 2 ≡ 0 = omega (arith, s) in
+        let g : bit_and w (w - 1) / 2 ≡ w / 2 = omega (arith, s) in
+        rw (o, f, g, add-zero) refl
 
 -- bit i of w is what g says of b + i
 abbrev pub Told : (ℕ → Bool) → ℕ → ℕ → ℕ → Type 0
@@ -175,46 +173,12 @@ inserted_behind (x ∷ l) p (y ∷ d) h =
 pub inserted_front : (l d : List ℕ) → length l ≤ length d → inserted d 0 l ≡ l ++ drop (length l) d
 inserted_front l d h = inserted_behind l [] d h
 
--- ---- the loop over a word's bits: what is left to do, done from here, gives what was asked
+-- ---- a list stored one by one: what is left of it, stored from here, gives what was asked
 
-pub record WordLoop (base : ℕ) (d : List ℕ) (at word : ℕ) (out : List ℕ) (n w : ℕ) : Type 0 where
-  pub low : base ≤ 192
-  pub small : w < 2 ^ 64
-  pub room : n + length (bits_of 64 base w) ≤ length d
-  pub long : length out ≡ length d
-  pub same_list : inserted out n (bits_of 64 base w) ≡ inserted d at (bits_of 64 base word)
-  pub same_next : n + length (bits_of 64 base w) ≡ at + length (bits_of 64 base word)
-
-pub record WordTurn (base : ℕ) (d : List ℕ) (at word : ℕ) (out : List ℕ) (n w k : ℕ) : Type 0 where
-  pub below : k < 64
-  pub place : n < length out
-  pub sub : 2 ^ k ≤ w
-  pub again : WordLoop base d at word (set out n (base + k)) (n + 1) (w - 2 ^ k)
-
-pub word_turn : {base : ℕ} {d : List ℕ} {at word : ℕ} {out : List ℕ} {n w k : ℕ} → WordLoop base d at word out n w → (w ≡ 0 → ⊥)
-    → k ≡ count_trailing_zeros 64 w → WordTurn base d at word out n w k
-unfolding inserted
-word_turn {base} {d} {at} {word} {out} {n} {w} {k} i z ek =
-    let q : Lowest 64 base w k = rw ek (lowest 64 base w (omega arith) i.small) in
-    let r = bits_of 64 base (w - 2 ^ k) in
-    let f : bits_of 64 base w ≡ (base + k) ∷ r = q.front in
-    let fl : length (bits_of 64 base w) ≡ suc (length r) = ap length f in
-    let a : WordLoop base d at word (set out n (base + k)) (n + 1) (w - 2 ^ k) = record {
-      low = i.low;
-      small = omega (arith, i.small);
-      room = omega (arith, i.room);
-      long = length-set out n (base + k) ∙ i.long;
-      same_list = sym (ap (λ (x : List ℕ). inserted out n x) f) ∙ i.same_list;
-      same_next = omega (arith, i.same_next);
-    } in
-    record { below = q.within; place = omega (arith, i.room, i.long); sub = sub_le k w q.set_there; again = a }
-
-pub word_end : {base : ℕ} {d : List ℕ} {at word : ℕ} {out : List ℕ} {n w : ℕ} → WordLoop base d at word out n w → w ≡ 0
-    → (out ≡ inserted d at (bits_of 64 base word)) × (n ≡ at + length (bits_of 64 base word))
-unfolding inserted
-word_end {base} {d} {at} {word} {out} {n} {w} i e =
-    let b : bits_of 64 base w ≡ [] = rw e (bits_none 64 base) in
-    (sym (ap (λ (x : List ℕ). inserted out n x) b) ∙ i.same_list, omega (arith, i.same_next, ap length b))
+pub record ListLoop (d : List ℕ) (at : ℕ) (all out : List ℕ) (n : ℕ) (rest : List ℕ) : Type 0 where
+  pub room : n + length rest ≤ length out
+  pub list : inserted out n rest ≡ inserted d at all
+  pub next : n + length rest ≡ at + length all
 
 -- ---- four words one after another, and the outcome of the whole
 

@@ -10,12 +10,13 @@ use borrow.Author.Tests.{eq-eqb, ne_eqb, not-true, not-false}
 use Rattle.std.specs.Int.{w64, trailing_ones}
 use Rattle.std.specs.Int.Count.{trailing_of_zero}
 use Rattle.std.proofs.lemmas.Nat.Bits.{bit_at_ones, bit_at-trailing_ones}
+use lib.Bits.{bit_or}
 use lib.ListN.{get_or}
 use Rattle.rules.specs.Tables.{range}
 use Rattle.rules.specs.Store.{units}
-use Rattle.held_map.specs.Bits.{bit, is_set, with_bit, LowestZero}
+use Rattle.held_map.specs.Bits.{bit, is_set, LowestZero}
 use Rattle.held_map.specs.Map.{held_in, first, lowest_free}
-use Rattle.held_map.proofs.Bits.{with_set, set_bit}
+use Rattle.held_map.proofs.Bits.{or_set, set_bit}
 
 -- ---- the first of a range that passes
 
@@ -117,7 +118,7 @@ lowest_zero w h = ⊎_elim all some (eq-or-lt_of_le h)
 
 -- word q, with unit 0 as held
 abbrev pub word_from1 : List ℕ → ℕ → ℕ
-word_from1 m zero = with_bit (get_or m 0 0) 0
+word_from1 m zero = bit_or (get_or m 0 0) 1
 word_from1 m (suc q) = get_or m (suc q) 0
 
 held_from_1 : (m : List ℕ) (u : ℕ) → 1 ≤ u → held_in m u ≡ is_set (word_from1 m (u / 64)) (u % 64)
@@ -125,7 +126,7 @@ unfolding held_in
 held_from_1 m u h = go (u / 64) refl
   where
     go : (q : ℕ) → u / 64 ≡ q → is_set (get_or m q 0) (u % 64) ≡ is_set (word_from1 m q) (u % 64)
-    go zero e = sym (with_set (get_or m 0 0) 0 (u % 64) ∙ ap (λ (b : Bool). b || is_set (get_or m 0 0) (u % 64)) (ne_eqb 0 (u % 64) (λ p. omega arith)))
+    go zero e = sym (or_set (get_or m 0 0) 0 (u % 64) ∙ ap (λ (b : Bool). b || is_set (get_or m 0 0) (u % 64)) (ne_eqb 0 (u % 64) (λ p. omega arith)))
     go (suc q) e = refl
 
 -- the words below q are all ones
@@ -140,8 +141,8 @@ ones_more m q o f h i j p l =
     (eq-or-lt_of_le (omega arith))
 
 -- as code reads it
-pub first_word : (m : List ℕ) (q w : ℕ) → q ≡ 0 → w ≡ with_bit (get_or m q 0) 0 → w ≡ word_from1 m q
-first_word m q w z e = rw z (e ∙ ap (λ (k : ℕ). with_bit (get_or m k 0) 0) z)
+pub first_word : (m : List ℕ) (q w : ℕ) → q ≡ 0 → w ≡ bit_or (get_or m q 0) 1 → w ≡ word_from1 m q
+first_word m q w z e = rw z (e ∙ ap (λ (k : ℕ). bit_or (get_or m k 0) 1) z)
 
 pub other_word : (m : List ℕ) (q w : ℕ) → (q ≡ 0 → ⊥) → w ≡ get_or m q 0 → w ≡ word_from1 m q
 other_word m zero w d e = absurd (d refl)
@@ -160,8 +161,8 @@ lowest_word m q {z} hq o f hz = sym (lowest_is m (q * 64 + z) (record { from = a
     above : (q : ℕ) → LowestZero (word_from1 m q) z → 1 ≤ q * 64 + z
     above zero g = up z g.free
       where
-        up : (y : ℕ) → (y < 64 → bit (with_bit (get_or m 0 0) 0) y ≡ 0) → 1 ≤ 0 * 64 + y
-        up zero k = absurd (omega (arith, k (omega arith), set_bit (with_bit (get_or m 0 0) 0) 0 (with_set (get_or m 0 0) 0 0)))
+        up : (y : ℕ) → (y < 64 → bit (bit_or (get_or m 0 0) 1) y ≡ 0) → 1 ≤ 0 * 64 + y
+        up zero k = absurd (omega (arith, k (omega arith), set_bit (bit_or (get_or m 0 0) 1) 0 (or_set (get_or m 0 0) 0 0)))
         up (suc y) k = omega arith
     above (suc p) g = omega arith
 

@@ -1,3 +1,4 @@
 pub mod Bits
 pub mod Map
 pub mod Lists
+pub mod Left

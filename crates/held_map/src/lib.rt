@@ -1,60 +1,29 @@
 // The map of held units: unit u is bit u % 64 of word u / 64. Every function is right on any four words.
 #![tactic(auto)]
 
-ghost use Rattle.std.specs.Prelude.{◌<◌, ◌≤◌, ◌+◌, ◌^◌, ◌≡◌, ◌++◌, length, drop};
-ghost use Rattle.std.specs.Int.Count.{ones, count_trailing_zeros};
-ghost use Rattle.held_map.specs.Bits.{is_set, with_bit, without_bit, Less, LowestZero};
+ghost use Rattle.std.specs.Prelude.{◌≤◌, ◌+◌, ◌≡◌, ◌++◌, length, drop};
+ghost use Rattle.held_map.specs.Bits.{Less, LowestZero};
 ghost use Rattle.held_map.specs.Map.{held_in, mark, clear, clears, held_number, lowest_free, gone};
 ghost use Rattle.held_map.specs.Lists.{bits_of, four_of, inserted};
-
-fn bit_at(w: u64, k: u8) -> bool
-    requires { k < 64 }
-    ensures { result ≡ is_set w k }
-{
-    (w >> k) % 2 == 1
-}
-
-pub fn one_at(k: u8) -> u64
-    requires { k < 64 }
-    ensures { result ≡ 2 ^ k }
-{
-    1 << k
-}
-
-fn with_bit(w: u64, k: u8) -> u64
-    requires { k < 64 }
-    ensures { result ≡ with_bit w k }
-{
-    w | one_at(k)
-}
-
-fn without_bit(w: u64, k: u8) -> u64
-    requires { k < 64 }
-    ensures { result ≡ without_bit w k }
-{
-    w & !one_at(k)
-}
 
 pub fn has(map: &[u64; 4], u: u8) -> bool
     ensures { result ≡ held_in map.now u }
 {
-    bit_at(map[usize::from(u / 64)], u % 64)
+    map[usize::from(u / 64)] >> (u % 64) & 1 == 1
 }
 
 // The unit is held afterwards, whether it was or not.
 pub fn hold(map: &mut [u64; 4], u: u8)
     ensures { map.new ≡ mark map.old u }
 {
-    let i = usize::from(u / 64);
-    map[i] = with_bit(map[i], u % 64);
+    map[usize::from(u / 64)] |= 1 << (u % 64);
 }
 
 // The unit is not held afterwards, whether it was or not.
 pub fn release(map: &mut [u64; 4], u: u8)
     ensures { map.new ≡ clear map.old u }
 {
-    let i = usize::from(u / 64);
-    map[i] = without_bit(map[i], u % 64);
+    map[usize::from(u / 64)] &= !(1 << (u % 64));
 }
 
 // None of the eight is held afterwards.
@@ -85,7 +54,7 @@ pub fn lowest_free(map: &[u64; 4]) -> u8
     ensures { result ≡ lowest_free map.now }
 {
     for (i, &word) in map.iter().enumerate() {
-        let word = if i == 0 { with_bit(word, 0) } else { word };
+        let word = if i == 0 { word | 1 } else { word };
         let zero = lowest_zero(word);
         if zero < 64 {
             return i as u8 * 64 + zero;
@@ -94,25 +63,57 @@ pub fn lowest_free(map: &[u64; 4]) -> u8
     0
 }
 
-pub fn lowest_one(w: u64) -> u32
-    ensures { result ≡ count_trailing_zeros 64 w }
-{
-    w.trailing_zeros()
+// The set bits of a word, lowest first, as units: the lowest bit stands for unit `base`. One iterator over all four words was tried and
+// proved: with it `list_gone` took a fifth longer where few units are gone, and twice as long where many are.
+#[derive(Drop)]
+pub struct Units {
+    word: u64,
+    base: u8,
+    ghost low: { base ≤ 192 },
 }
 
-// The set bits of a word, lowest first, from `at` on: a turn for each of them and none for the others.
+impl Units {
+    ghost use Rattle.held_map.specs.Left.{left};
+
+    pub fn of(word: u64, base: u8) -> Units
+        requires { base ≤ 192 }
+        ensures { left result ≡ bits_of 64 base word }
+    {
+        Units { word, base }
+    }
+}
+
+// A turn for each set bit and none for the others.
+impl Iterator for Units {
+    ghost use Rattle.std.specs.Iterator.{YieldsFirst, item_count};
+    ghost use Rattle.held_map.specs.Left.{left};
+
+    type Item = u8;
+
+    ghost next_gives = { YieldsFirst left };
+
+    ghost remaining = { item_count left };
+
+    fn next(&mut self) -> Option<u8> {
+        if self.word == 0 {
+            return None;
+        }
+        let k = self.word.trailing_zeros() as u8;
+        self.word &= self.word - 1;
+        Some(self.base + k)
+    }
+}
+
+// The set bits of a word, from `at` on.
 fn list_word(word: u64, base: u8, out: &mut [u8], at: usize) -> usize
     requires { (base ≤ 192) × (at + length (bits_of 64 base word) ≤ length out.old) }
     ensures list { out.new ≡ inserted out.old at (bits_of 64 base word) }
     ensures next { result ≡ at + length (bits_of 64 base word) }
 {
-    let mut w = word;
     let mut n = at;
-    while w != 0 {
-        let k = lowest_one(w) as u8;
-        out[n] = base + k;
+    for u in Units::of(word, base) {
+        out[n] = u;
         n += 1;
-        w -= one_at(k);
     }
     n
 }

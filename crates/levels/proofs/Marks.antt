@@ -1,19 +1,17 @@
 -- The loops that mark: the children of one unit, of the units in a word, of those in a level. Assumes nothing.
 use native.Mathlib.Numerals.{add-one}
 use mathlib.Core.Path.{◌≡◌, refl, ap, sym, ◌∙◌}
-use mathlib.Core.List.{List, [], ◌++◌}
-use Prim.Native.Nat.{ℕ, zero, suc, ◌+◌, ◌-◌, ◌*◌, ◌^◌, ◌≤◌, ◌<◌}
+use mathlib.Core.List.{List, [], ◌∷◌, ◌++◌}
+use Prim.Native.Nat.{ℕ, zero, suc, ◌+◌, ◌-◌, ◌*◌, ◌≤◌}
 use native.Mathlib.Omega.{arith}
-use lib.Count.{count_trailing_zeros}
 use lib.ListN.{length, get_or, take, drop, drop_of_length-le}
 use Rattle.ways.specs.Ways.{flat}
 use Rattle.ways.proofs.Frame.{flat_append}
 use Rattle.rules.specs.Tables.{slice}
 use Rattle.held_map.specs.Map.{held_in, mark}
 use Rattle.held_map.specs.Lists.{bits_of, four_of}
-use Rattle.held_map.proofs.Bits.{sub_le}
 use Rattle.held_map.proofs.Map.{held_word}
-use Rattle.held_map.proofs.Lists.{Lowest, lowest, bits_none, four_sift}
+use Rattle.held_map.proofs.Lists.{four_sift}
 use Rattle.counting.specs.declared.Node.{Node}
 use Rattle.counting.specs.Nodes.{node_in}
 use Rattle.counting.specs.Change.{each}
@@ -31,38 +29,12 @@ children_end l u n cs m m' i e q h v =
     let none : drop i cs ≡ [] = drop_of_length-le cs {i = i} h in
     sym (ap (marks m') none) ∙ v ∙ ap (marks m) same
 
--- ---- those of the units in a word: what is left to mark, marked from here, gives what was asked
+-- ---- those of the units in a list, one by one
 
-pub record WordLoop (children : ℕ → List ℕ) (base word : ℕ) (below₀ below : List ℕ) (w : ℕ) : Type 0 where
-  pub low : base ≤ 192
-  pub small : w < 2 ^ 64
-  pub left : marks below (flat children (bits_of 64 base w)) ≡ marks below₀ (flat children (bits_of 64 base word))
-
-module _ {children : ℕ → List ℕ} {base word : ℕ} {below₀ below : List ℕ} {w : ℕ} (i : WordLoop children base word below₀ below w) where
-  pub word_lowest : {k : ℕ} → (w ≡ 0 → ⊥) → k ≡ count_trailing_zeros 64 w → (k < 64) × (2 ^ k ≤ w)
-  word_lowest {k} z e =
-      let q : Lowest 64 base w k = rw e (lowest 64 base w (omega arith) i.small) in
-      (q.within, sub_le k w q.set_there)
-
-  pub word_turn : {k : ℕ} {below' : List ℕ} → (w ≡ 0 → ⊥) → k ≡ count_trailing_zeros 64 w → below' ≡ marks below (children (base + k))
-      → WordLoop children base word below₀ below' (w - 2 ^ k)
-  word_turn {k} z e m =
-      let q : Lowest 64 base w k = rw e (lowest 64 base w (omega arith) i.small) in
-      let r = bits_of 64 base (w - 2 ^ k) in
-      record {
-        low = i.low;
-        small = omega (arith, i.small);
-        left =
-            rw m
-            (sym (each_append mark (children (base + k)) (flat children r) below)
-            ∙ sym (ap (λ (l : List ℕ). marks below (flat children l)) q.front)
-            ∙ i.left);
-      }
-
-  pub word_end : w ≡ 0 → below ≡ marks below₀ (flat children (bits_of 64 base word))
-  word_end e =
-      let b : bits_of 64 base w ≡ [] = rw e (bits_none 64 base) in
-      sym (ap (λ (l : List ℕ). marks below (flat children l)) b) ∙ i.left
+pub mark_turn : (children : ℕ → List ℕ) (end below below' us : List ℕ) {u : ℕ} {rest : List ℕ} → marks below (flat children us) ≡ end → us ≡ u ∷ rest
+    → below' ≡ marks below (children u) → marks below' (flat children rest) ≡ end
+mark_turn children end below below' us {u} {rest} left e m =
+    rw m (sym (each_append mark (children u) (flat children rest) below) ∙ ap (λ (l : List ℕ). marks below (flat children l)) (sym e) ∙ left)
 
 -- ---- those of the units in four words
 

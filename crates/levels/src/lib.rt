@@ -9,6 +9,7 @@ ghost use Rattle.held_map.specs.Lists.{bits_of};
 ghost use Rattle.counting.specs.Graph.{children_in};
 ghost use Rattle.levels.specs.Sets.{marks, below_in};
 
+use held_map::Units;
 use units::NodeUnit;
 
 // The children of a unit join the set.
@@ -21,16 +22,13 @@ fn mark_children(tree: &[u8; 6656], u: NodeUnit, below: &mut [u64; 4])
     }
 }
 
-// Those of each unit that is a set bit of a word: a turn for each of them and none for the others.
+// Those of each unit that is a set bit of a word.
 fn mark_word(tree: &[u8; 6656], word: u64, base: u8, below: &mut [u64; 4])
     requires { base ≤ 192 }
     ensures { below.new ≡ marks below.old (flat (children_in tree.now) (bits_of 64 base word)) }
 {
-    let mut w = word;
-    while w != 0 {
-        let k = held_map::lowest_one(w) as u8;
-        mark_children(tree, NodeUnit(base + k), below);
-        w -= held_map::one_at(k);
+    for u in Units::of(word, base) {
+        mark_children(tree, NodeUnit(u), below);
     }
 }
 

@@ -1,9 +1,9 @@
--- What is left to list, listed from here, gives what was asked. The measure is the word, which falls with each bit.
-use Rattle.held_map.proofs.Lists.{WordLoop}
+-- What the iterator has left, listed from here, gives what was asked.
+use Rattle.held_map.specs.Left.{left}
+use Rattle.held_map.specs.Lists.{bits_of}
+use Rattle.held_map.proofs.Lists.{ListLoop}
 use Rattle.held_map.proofs.list_word.Given as goal
 
-abbrev pub invariant-loop-w : goal.invariant-loop-w
-invariant-loop-w l = WordLoop l.base l.fn.out l.at l.word l.out l.n l.w
-
-abbrev pub decreases-loop-w : goal.decreases-loop-w
-decreases-loop-w l = l.w
+abbrev pub invariant-loop-u : goal.invariant-loop-u
+invariant-loop-u l =
+    (goal.iterator-loop-u).can_next l.u-iterator × (goal.iterator-loop-u).is_finite l.u-iterator × ListLoop l.fn.out l.at (bits_of 64 l.base l.word) l.out l.n (left l.u-iterator)

@@ -1,10 +1,13 @@
--- What is left to mark, marked from here, gives what was asked. The measure is the word, which falls with each bit.
+-- What is left to mark, marked from here, gives what was asked.
+use Rattle.std.proofs.Common.{◌≡◌}
+use Rattle.ways.specs.Ways.{flat}
+use Rattle.held_map.specs.Left.{left}
+use Rattle.held_map.specs.Lists.{bits_of}
 use Rattle.counting.specs.Graph.{children_in}
-use Rattle.levels.proofs.Marks.{WordLoop}
+use Rattle.levels.specs.Sets.{marks}
 use Rattle.levels.proofs.mark_word.Given as goal
 
-abbrev pub invariant-loop-w : goal.invariant-loop-w
-invariant-loop-w l = WordLoop (children_in l.tree) l.base l.word l.fn.below l.below l.w
-
-abbrev pub decreases-loop-w : goal.decreases-loop-w
-decreases-loop-w l = l.w
+abbrev pub invariant-loop-u : goal.invariant-loop-u
+invariant-loop-u l =
+    (goal.iterator-loop-u).can_next l.u-iterator × (goal.iterator-loop-u).is_finite l.u-iterator
+    × (marks l.below (flat (children_in l.tree) (left l.u-iterator)) ≡ marks l.fn.below (flat (children_in l.tree) (bits_of 64 l.base l.word)))
