@@ -10,7 +10,7 @@ ghost use Rattle.counting.specs.Graph.{children_in};
 ghost use Rattle.levels.specs.Sets.{marks, below_in};
 
 use held_map::Units;
-use units::NodeUnit;
+use units::{NodeUnit, Unit};
 
 // The children of a unit join the set.
 fn mark_children(tree: &[u8; 6656], u: NodeUnit, below: &mut [u64; 4])
