@@ -2,12 +2,11 @@
 // and the places of branch b in the buffers at 256 + b. On arrays that are not right every function still ends within bounds.
 #![tactic(auto)]
 
-ghost use Rattle.std.specs.Prelude.{◌≤◌, ◌+◌, ◌-◌, ◌≡◌, ℕ, get_or, set};
-ghost use Rattle.units.specs.Limits.{room};
+ghost use Rattle.std.specs.Prelude.{◌-◌, ◌≡◌, ℕ, get_or, set};
 ghost use Rattle.rules.specs.Tables.{slice};
 ghost use Rattle.counting.specs.Nodes.{node_in, put_node, bytes_of};
-ghost use Rattle.counting.specs.Change.{last_way, blanked_if, drop_tree, drop_count};
-ghost use Rattle.counting.specs.Places.{place_of, Computes, change_places, add_place, add_places, drop_places, up_to};
+ghost use Rattle.counting.specs.Change.{last_way, drop_tree, drop_count};
+ghost use Rattle.counting.specs.Places.{place_of, Computes, change_places, add_place, add_places, drop_places};
 
 use units::{BranchRoot, NodeUnit};
 
@@ -128,13 +127,6 @@ pub fn part(places: &[u8; 8], from: u8, to: u8) -> &[u8]
     let end = usize::from(to).min(8);
     let start = usize::from(from).min(end);
     &places[start..end]
-}
-
-// The end of a run of places: a node has eight.
-pub fn up_to(to: u8) -> usize
-    ensures { (result ≤ room) × (result ≡ up_to to) }
-{
-    usize::from(to).min(8)
 }
 
 // The count of each branch becomes what `f` makes of it, one branch after the other.

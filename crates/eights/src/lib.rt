@@ -2,11 +2,10 @@
 // The places that are not used are 0.
 #![tactic(auto)]
 
-ghost use Rattle.std.specs.Prelude.{◌+◌, ◌-◌, ◌<◌, ◌≤◌, ◌≡◌, map, leb, get_or};
+ghost use Rattle.std.specs.Prelude.{◌-◌, ◌<◌, ◌≡◌, map, leb, get_or};
 ghost use Rattle.records.specs.Rows.{eight};
 ghost use Rattle.rules.specs.Tables.{all};
 ghost use Rattle.rules.specs.Steps.{moved};
-ghost use Rattle.counting.specs.Places.{up_to};
 ghost use Rattle.eights.specs.Eights.{replaced, number_after};
 
 // ---- numbers

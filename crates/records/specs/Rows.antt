@@ -17,10 +17,6 @@ Row l b ws = (k : ℕ) → k < length ws → get_or l (b + k) 0 ≡ get_or ws k 
 pub record AllBytes (l : List ℕ) : Type 0 where
   pub small : (i : ℕ) → get_or l i 0 < 256
 
-pub no_bytes : (l : List ℕ) → length l ≡ 0 → AllBytes l
-no_bytes [] e = record { small = λ i. omega arith }
-no_bytes (x ∷ xs) e = absurd (omega arith)
-
 -- n places from b on and m places from c on do not meet
 abbrev pub Apart : ℕ → ℕ → ℕ → ℕ → Type 0
 Apart b n c m = (j k : ℕ) → j < n → k < m → b + j ≡ c + k → ⊥

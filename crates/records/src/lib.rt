@@ -3,7 +3,7 @@
 
 ghost use Rattle.std.specs.Prelude.{◌≤◌, ◌+◌, ◌≡◌, length};
 ghost use Rattle.units.specs.Limits.{room};
-ghost use Rattle.records.specs.Rows.{eight_at, poured, AllBytes};
+ghost use Rattle.records.specs.Rows.{eight_at, poured};
 
 // The bytes of src into s from `at` on.
 pub fn pour(s: &mut [u8], at: usize, src: &[u8])
@@ -21,14 +21,4 @@ pub fn eight(s: &[u8], at: usize) -> [u8; 8]
     let mut read = [0; 8];
     read.copy_from_slice(&s[at..at + 8]);
     read
-}
-
-// What the type of a byte says, told to the proofs: each is below 256. The code does nothing with it.
-pub fn bytes(s: &[u8])
-    ensures { AllBytes s.now }
-{
-    if s.len() == 0 {
-        return;
-    }
-    let _first = s[0];
 }

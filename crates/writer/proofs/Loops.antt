@@ -1,15 +1,11 @@
--- Putting one record, the loop over the records of a kind, the numbers that they come from, and one kind after another. Assumes nothing.
-use Rattle.std.specs.Prelude.{Bool, true, false, cond, ◌≡◌, refl, List, [], ◌∷◌, ◌++◌, map, ℕ, zero, suc, ◌+◌, ◌-◌, ◌≤◌, ◌<◌, leb, length, get_or, Option, Some, None, Ok}
-use Rattle.std.proofs.Common.{ap, sym, subst, ◌∙◌, add-zero, add-one, arith, eq-eqb, ne_eqb, le-leb, le-ltb}
+-- Putting one record, the loop over the records of a kind, and one kind after another. Assumes nothing.
+use Rattle.std.specs.Prelude.{Bool, true, false, cond, ◌≡◌, refl, List, [], ◌∷◌, ◌++◌, map, ℕ, ◌+◌, ◌-◌, ◌≤◌, ◌<◌, leb, length, get_or, Option, Some, None, Ok}
+use Rattle.std.proofs.Common.{ap, sym, ◌∙◌, add-zero, arith, eq-eqb, ne_eqb, le-leb, le-ltb}
 use Rattle.std.proofs.lemmas.Bool.{lt-leb}
 use Rattle.std.proofs.lemmas.Slice.{put_mid-paste}
 use Rattle.std.specs.Iterator.{AlwaysYields}
-use Rattle.std.specs.List.{filter_map, cons_option, range_with_len}
-use Rattle.std.specs.Range.{range_inclusive_len, range_inclusive_left, range_inclusive_start, range_inclusive_end, range_inclusive_exhausted, range_inclusive_steps}
-use Rattle.std.specs.declared.ops.Range.{Range}
-use Rattle.std.specs.declared.ops.RangeInclusive.{RangeInclusive}
-use Rattle.std.proofs.iter.Yields.{listed, nat_range_steps}
-use Rattle.std.proofs.lemmas.Iterator.{YieldsList, YieldsList-from_range}
+use Rattle.std.specs.List.{filter_map, cons_option}
+use Rattle.std.proofs.lemmas.Iterator.{YieldsList}
 use Rattle.std.proofs.lemmas.Iterator.Consumers.{YieldsList-from_filter_map}
 use Rattle.std.specs.Fn.{Called}
 use Rattle.std.specs.Iterator.Adapters.{filter_map_source, filter_map_callee, filter_map_steps}
@@ -81,47 +77,7 @@ module _ {S A : Type 0} (steps : S → Option A → S → Type 0) (bytes_of : A 
       go [] y w = w
       go (r ∷ rs) y w = absurd (y.0 t step)
 
--- ---- the numbers of a range
-
-abbrev gap : ℕ → ℕ → ℕ
-gap a b = b - a
-
-abbrev inclusive_steps : RangeInclusive ℕ → Option ℕ → RangeInclusive ℕ → Type 0
-inclusive_steps = range_inclusive_steps gap (λ a b. b ≡ a + 1)
-
-abbrev numbers : RangeInclusive ℕ → List ℕ
-numbers s = range (range_inclusive_left gap s) (range_inclusive_start s)
-
-tail : (a b c : ℕ) (spent : Bool) → (spent ≡ false → c ≡ a + 1) → range (range_inclusive_len gap c b spent) (suc a) ≡ range (range_inclusive_len gap c b spent) c
-tail a b c true h = refl
-tail a b c false h = let e : suc a ≡ c = omega (arith, h refl) in ap (range (range_inclusive_len gap c b false)) e
-
-numbers_next : (s : RangeInclusive ℕ) (k : ℕ) (t : RangeInclusive ℕ) → inclusive_steps s (Some k) t → numbers s ≡ k ∷ numbers t
-numbers_next s k t e =
-    let n : range_inclusive_left gap s ≡ suc (range_inclusive_left gap t) = omega (arith, e.1.1) in
-    let a = range_inclusive_start s in
-    ap (λ (m : ℕ). range m a) n
-    ∙ ap (λ (x : ℕ). x ∷ range (range_inclusive_left gap t) (suc a)) (sym e.1.0)
-    ∙ ap (λ (l : List ℕ). k ∷ l) (tail a (range_inclusive_end t) (range_inclusive_start t) (range_inclusive_exhausted t) e.1.2)
-
-numbers_end : (s t : RangeInclusive ℕ) → inclusive_steps s None t → length (numbers s) ≡ 0
-numbers_end s t e = ap (λ (m : ℕ). length (range m (range_inclusive_start s))) e.1.0
-
-pub inclusive_gives : (s r : RangeInclusive ℕ) (a b : ℕ) → s ≡ r → range_inclusive_start r ≡ a → range_inclusive_end r ≡ b → range_inclusive_exhausted r ≡ false
-    → YieldsList inclusive_steps (λ x. x) s (range (range_inclusive_len gap a b false) a)
-inclusive_gives s r a b w p q x =
-    let e : numbers s ≡ range (range_inclusive_len gap a b false) a = rw (w, p, q, x) refl in
-    record { runs = subst (AlwaysYields inclusive_steps (λ x. x) s) e (listed inclusive_steps (λ x. x) numbers numbers_end numbers_next s) }
-
--- the library's list of a range is the rules'
-range_same : (n a : ℕ) → range_with_len a n ≡ range n a
-range_same zero a = refl
-range_same (suc n) a = ap (λ (l : List ℕ). a ∷ l) (rw add-one (range_same n (suc a)))
-
-pub range_gives : (s : Range ℕ) (a b : ℕ) → s ≡ record { start = a; end = b } → YieldsList nat_range_steps (λ x. x) s (range (b - a) a)
-range_gives s a b e = subst (YieldsList nat_range_steps (λ x. x) s) (range_same (b - a) a) (YieldsList-from_range a b (b - a) e refl)
-
--- ---- the records of these numbers
+-- ---- the records of the numbers of a range
 
 none_skipped : (f : ℕ → List ℕ) (ks : List ℕ) (o : Place) → wrote o (filter_map (λ k. some_record (f k)) ks) ≡ wrote o (map f ks)
 none_skipped f [] o = refl

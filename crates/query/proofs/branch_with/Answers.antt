@@ -4,8 +4,8 @@ use Rattle.std.proofs.lemmas.Iterator.Consumers.{YieldsList-at}
 use Rattle.std.proofs.lemmas.Iterator.Search.{find_from_yields_List}
 use Rattle.std.proofs.lemmas.Iterator.Adapters.{option_map_id}
 use Rattle.units.specs.declared.BranchRoot.{BranchRoot}
+use Rattle.records.proofs.Ranges.{inclusive_gives}
 use Rattle.query.specs.Owners.{in_branch, branch_with}
-use Rattle.query.proofs.Ranges.{inclusive_gives}
 use Rattle.query.proofs.branch_with.Goals as goal
 
 pub returns : goal.returns

@@ -1,11 +1,26 @@
--- What `a..=b` of the code gives, one number after another, as a list of the rules. Assumes nothing.
-use Rattle.std.proofs.Common.{◌≡◌, ℕ, suc, ◌+◌, ◌-◌, Bool, true, false, None, Some, List, ◌∷◌, length, refl, ap, ◌∙◌, subst, arith}
+-- What `a..b` and `a..=b` of the code give, one number after another, as a list of the rules. Assumes nothing.
+use Rattle.std.proofs.Common.{◌≡◌, ℕ, zero, suc, ◌+◌, ◌-◌, Bool, true, false, None, Some, List, ◌∷◌, length, refl, ap, ◌∙◌, subst, add-one, arith}
+use Rattle.std.specs.declared.ops.Range.{Range}
 use Rattle.std.specs.declared.ops.RangeInclusive.{RangeInclusive}
+use Rattle.std.specs.List.{range_with_len}
 use Rattle.std.specs.Range.{range_inclusive_start, range_inclusive_end, range_inclusive_exhausted, range_inclusive_len, range_inclusive_left}
+use Rattle.std.proofs.iter.Yields.{nat_range_steps}
 use Rattle.std.proofs.iter.runs.Sources.{nat_range_inclusive_steps}
-use Rattle.std.proofs.lemmas.Iterator.{YieldsList}
+use Rattle.std.proofs.lemmas.Iterator.{YieldsList, YieldsList-from_range}
 use Rattle.std.proofs.lemmas.Iterator.Consumers.{YieldsList-from_shown}
 use Rattle.rules.specs.Tables.{range}
+
+-- ---- `a..b`
+
+-- the library's list of a range is the rules'
+range_same : (n a : ℕ) → range_with_len a n ≡ range n a
+range_same zero a = refl
+range_same (suc n) a = ap (λ (l : List ℕ). a ∷ l) (rw add-one (range_same n (suc a)))
+
+pub range_gives : {s : Range ℕ} (a b : ℕ) → s ≡ record { start = a; end = b } → YieldsList nat_range_steps (λ x. x) s (range (b - a) a)
+range_gives {s} a b e = subst (YieldsList nat_range_steps (λ x. x) s) (range_same (b - a) a) (YieldsList-from_range a b (b - a) e refl)
+
+-- ---- `a..=b`
 
 -- how many numbers are left
 abbrev left : RangeInclusive ℕ → ℕ
