@@ -17,6 +17,10 @@ Row l b ws = (k : ℕ) → k < length ws → get_or l (b + k) 0 ≡ get_or ws k 
 pub record AllBytes (l : List ℕ) : Type 0 where
   pub small : (i : ℕ) → get_or l i 0 < 256
 
+pub no_bytes : (l : List ℕ) → length l ≡ 0 → AllBytes l
+no_bytes [] e = record { small = λ i. omega arith }
+no_bytes (x ∷ xs) e = absurd (omega arith)
+
 -- n places from b on and m places from c on do not meet
 abbrev pub Apart : ℕ → ℕ → ℕ → ℕ → Type 0
 Apart b n c m = (j k : ℕ) → j < n → k < m → b + j ≡ c + k → ⊥
@@ -36,6 +40,20 @@ poured_to l at src (suc n) = set (poured_to l at src n) (at + n) (get_or src n 0
 
 unfoldable pub poured : List ℕ → ℕ → List ℕ → List ℕ
 poured l at src = poured_to l at src (length src)
+
+-- ---- byte after byte
+
+pub poured_start : (l : List ℕ) (at : ℕ) (src : List ℕ) → l ≡ poured_to l at src 0
+unfolding poured_to
+poured_start l at src = refl
+
+pub poured_turn : (l : List ℕ) (at : ℕ) (src b : List ℕ) (n : ℕ) → b ≡ poured_to l at src n → set b (at + n) (get_or src n 0) ≡ poured_to l at src (n + 1)
+unfolding poured_to
+poured_turn l at src b n e = rw (e, add-one) refl
+
+pub poured_end : (l : List ℕ) (at : ℕ) (src b : List ℕ) (n : ℕ) → n ≡ length src → b ≡ poured_to l at src n → b ≡ poured l at src
+unfolding poured
+poured_end l at src b n q e = rw (← q) e
 
 -- ---- it is the library's paste
 
