@@ -1,6 +1,6 @@
 -- The graph that stands in the bytes of the tree, right or not: the children and the buffers in a unit's row. A number over eight
 -- counts as eight, for a row has no more. Assumes nothing.
-use Rattle.std.proofs.Common.{⊎_elim, ap, ap₂, ◌∙◌, subst, arith, eqb-true}
+use Rattle.std.proofs.Common.{⊎_elim, ap, ap₂, sym, ◌∙◌, subst, arith, add-zero, eqb-true}
 use Rattle.std.specs.Prelude.{◌≡◌, refl, List, [], ◌∷◌, ℕ, zero, suc, ◌+◌, ◌*◌, ◌-◌, ◌≤◌, ◌<◌, T, eqb, length, get_or, take}
 use Rattle.units.specs.Limits.{room}
 use Rattle.ways.specs.Ways.{has}
@@ -15,7 +15,7 @@ children_in l u = take (get_or l (u * stride + 9) 0) (eight_at l (u * stride + 1
 unfoldable pub buffers_in : List ℕ → ℕ → List ℕ
 buffers_in l u = take (get_or l (u * stride) 0) (eight_at l (u * stride + 1))
 
--- in the row of a node the children are the node's
+-- in the row of a node they are the node's
 whole : (l : List ℕ) → length l ≤ room → take (length l) (eight l) ≡ l
 whole l h =
     let e : length l ≡ length l - 0 = omega arith in
@@ -25,6 +25,12 @@ pub children_in_lem : (l : List ℕ) (u : ℕ) (n : Rattle.rules.specs.Store.Nod
 unfolding children_in
 children_in_lem l u n r h =
     ap₂ take (r 9 (omega arith)) (eight_read l (u * stride) 10 (node_bytes n) r (omega arith)) ∙ whole n.children h
+
+pub buffers_in_lem : (l : List ℕ) (u : ℕ) (n : Rattle.rules.specs.Store.Node) → Row l (u * stride) (node_bytes n) → length n.buffers ≤ room → buffers_in l u ≡ n.buffers
+unfolding buffers_in
+buffers_in_lem l u n r h =
+    let e : get_or l (u * stride) 0 ≡ length n.buffers = ap (λ (j : ℕ). get_or l j 0) (sym (add-zero (u * stride))) ∙ r 0 (omega arith) in
+    ap₂ take e (eight_read l (u * stride) 1 (node_bytes n) r (omega arith)) ∙ whole n.buffers h
 
 -- as code reads them
 pub node_children : (l : List ℕ) (u : ℕ) (n : Node) → n ≡ node_in l u → (length n.children ≡ room) × (take n.child_number n.children ≡ children_in l u)

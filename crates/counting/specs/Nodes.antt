@@ -106,6 +106,9 @@ pub all_zero : (n : Node) → n.buffer_number ≡ 0 → AllOfLen (λ (x : ℕ). 
 all_zero n a b c d e =
     λ i. record { buffer_number = a i; buffers = zeros n.buffers b i; child_number = c i; children = zeros n.children d i; offsets = zeros n.offsets e i }
 
+pub blank_bytes : bytes_of blank_node ≡ node_bytes blank
+blank_bytes = refl
+
 -- ---- laws of the root
 
 pub root_read : (l : List ℕ) (r : ℕ) → Row l 0 (root_bytes r) → get_or l 0 0 ≡ r
