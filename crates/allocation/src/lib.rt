@@ -1,5 +1,6 @@
 // What the ten steps share above counting: ways that go and the units that become free with them, units that come to be held, the test
 // that units are fresh, the test of the counts after a step, and the sweep of dead branches. Every function is right on any arrays.
+// The arrays go into a function one by one and not as one state: C lends four pointers, and what is not lent is not changed.
 #![tactic(auto)]
 
 ghost use Rattle.std.specs.Prelude.{◌≡◌, ◌≤◌, [], ◌∷◌, length};

@@ -1,5 +1,7 @@
 // The tree in the lent arrays: node u stands at u * 26 of `tree`, whose first byte is the root; `counts` has the ways to node u at u
 // and the places of branch b in the buffers at 256 + b. On arrays that are not right every function still ends within bounds.
+// Nodes lie in an array and name one another by unit, with no heap: memory is fixed, and the arrays are lent, by C too, each to the
+// functions that may change it.
 #![tactic(auto)]
 
 ghost use Rattle.std.specs.Prelude.{◌-◌, ◌≡◌, ℕ, get_or, set};
@@ -18,6 +20,7 @@ pub const PLACES: usize = 256;
 
 // ---- nodes
 
+// A number beside each eight places, as the row has them: fixed memory, and a row that is not right may name more than eight.
 #[derive(Clone, Copy, Debug, Default, PartialEq, Eq)]
 pub struct Node {
     pub buffer_number: u8,

@@ -22,6 +22,8 @@ const SLOTS: usize = 2304;
 
 const INPUTS: usize = 2344;
 
+// A number beside the places, here and below, as the rows have them: fixed memory, and a row that is not right may name more than eight.
+// A branch and an input are two types, though alike today: document 02 gives the input offsets.
 #[derive(Clone, Copy, Debug, Default, PartialEq, Eq)]
 pub struct Branch {
     pub number: u8,
@@ -201,7 +203,8 @@ pub fn end_input(hold: &mut [u8; 2380], k: CompactorSlot)
     write_input(hold, k, Input::default());
 }
 
-// Whether u stands in the first `number` of the places; a number over 8 counts as 8.
+// Whether u stands in the first `number` of the places; a number over 8 counts as 8. With a slice for the two, each caller would have to
+// write the bound `..usize::from(number).min(8)`.
 pub fn among(places: [u8; 8], number: u8, u: u8) -> bool
     ensures { result ≡ has u (take number places) }
 {

@@ -1,5 +1,6 @@
 // The kinds of number of document 01, each with its limits, the lengths of the records' bodies, and the refusals.
-// A node's unit and a branch's root are different kinds, so that neither can be passed where the other is wanted.
+// A node's unit and a branch's root are different kinds, so that neither can be passed where the other is wanted: document 01 names
+// the form, two tuple structs over a byte, with constants and constructors of each kind. Hence no generic type, and four times `new`.
 #![tactic(auto)]
 
 ghost use Rattle.std.specs.Prelude.{◌≡◌, Bool, ◌&&◌, ℕ, ◌<◌, ◌≤◌, eqb, leb, ltb};
@@ -244,13 +245,14 @@ impl From<Kind> for u8 {
 // By kind, from 1 on.
 const BODIES: [u8; 11] = [0, 2, 2, 1, 2, 1, 20, 19, 11, 20, 1];
 
+// Of any byte, as its clause says; `Kind::try_from` tells which kind.
 pub fn is_kind(kind: u8) -> bool
     ensures { result ≡ (leb 1 kind && leb kind last_kind) }
 {
     Kind::try_from(kind).is_ok()
 }
 
-// The length of the body that a kind fixes.
+// The length of the body that a kind fixes. By number and for 0 too, as its clause says; `Kind::body_length` is the same by kind.
 pub fn body_length(kind: u8) -> u8
     requires { kind ≤ last_kind }
     ensures { result ≡ body_length kind }
