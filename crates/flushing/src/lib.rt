@@ -24,6 +24,7 @@ pub fn flush_tests(
     let buffers = n.buffers;
     let units = [body[17], body[18]];
     let shape = bodies::path_shape(body) && pathed::is_index(c);
+    let leads = ends.leads_to;
     let range = shapes::gc_fits(n, c, gc);
     let small = shapes::flush_room(n, ends.below, c);
     let fresh = pathed::fresh_units(map, path.fresh, &units);
@@ -31,17 +32,7 @@ pub fn flush_tests(
     let gained = counting::part(&buffers, offset, n.buffer_number);
     let lost = counting::part(&buffers, 0, gc);
     let fit = allocation::gains_fit(counts, gained, lost);
-    [
-        shape,
-        true,
-        ends.leads_to,
-        range,
-        true,
-        small,
-        true,
-        fresh,
-        fit,
-    ]
+    [shape, true, leads, range, true, small, true, fresh, fit]
 }
 
 // Carries an accepted flush out.

@@ -24,22 +24,13 @@ pub fn split_tests(
     let buffers = m.buffers;
     let units = [body[17], body[18], body[19]];
     let shape = bodies::path_shape(body) && pathed::is_index(c);
+    let leads = ends.leads_to;
     let range = shapes::split_share_fits(m, body[16]);
     let small = shapes::room_for_child(n);
     let fresh = pathed::fresh_units(map, path.fresh, &units);
     let gained = counting::part(&buffers, 0, m.buffer_number);
     let fit = allocation::gains_fit(counts, gained, &[]);
-    [
-        shape,
-        true,
-        ends.leads_to,
-        range,
-        true,
-        small,
-        true,
-        fresh,
-        fit,
-    ]
+    [shape, true, leads, range, true, small, true, fresh, fit]
 }
 
 // Carries an accepted split out.
