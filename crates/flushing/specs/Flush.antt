@@ -11,7 +11,8 @@ use Rattle.shapes.specs.Questions.{gc_fits, flush_room}
 use Rattle.allocation.specs.Fresh.{fresh_in}
 use Rattle.allocation.specs.Gains.{gains_fit}
 use Rattle.allocation.specs.Sweep.{sweep_hold, sweep_map}
-use Rattle.pathed.specs.Pathed.{used_part, target_node, child_unit, child_node, leads_to_in, pathed_tree, pathed_counts, pathed_map}
+use Rattle.bodies.specs.Bodies.{used_part}
+use Rattle.pathed.specs.Pathed.{target_node, child_unit, child_node, leads_to_in, pathed_tree, pathed_counts, pathed_map}
 
 abbrev pub flush_step : List ℕ → Step
 flush_step b = Flush (get_or b 0 0) (slice 1 indexes b) (slice 8 indexes b) (get_or b 15 0) (get_or b 16 0) (get_or b 17 0) (get_or b 18 0)

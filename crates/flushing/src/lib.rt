@@ -16,35 +16,23 @@ pub fn flush_tests(
 ) -> [bool; 9]
     ensures { result ≡ flush_tests tree.now counts.now map.now body.now }
 {
-    let d = body[0];
-    let k = bodies::used(d);
-    let is = &body[1..8];
-    let fs = &body[8..15];
+    let path = bodies::path_of(body);
     let c = body[15];
     let gc = body[16];
-    let ends = pathed::ends_of(tree, &is[..k], c);
+    let ends = pathed::ends_of(tree, path.indexes, c);
     let n = ends.node;
     let buffers = n.buffers;
     let units = [body[17], body[18]];
-    let shape = bodies::path_shape(d, is, fs) && pathed::is_index(c);
+    let shape = bodies::path_shape(body) && pathed::is_index(c);
+    let leads = ends.leads_to;
     let range = shapes::gc_fits(n, c, gc);
     let small = shapes::flush_room(n, ends.below, c);
-    let fresh = pathed::fresh_units(map, &fs[..k], &units);
+    let fresh = pathed::fresh_units(map, path.fresh, &units);
     let offset = shapes::offset_of(n, c);
     let gained = counting::part(&buffers, offset, n.buffer_number);
     let lost = counting::part(&buffers, 0, gc);
     let fit = allocation::gains_fit(counts, gained, lost);
-    [
-        shape,
-        true,
-        ends.leads_to,
-        range,
-        true,
-        small,
-        true,
-        fresh,
-        fit,
-    ]
+    [shape, true, leads, range, true, small, true, fresh, fit]
 }
 
 // Carries an accepted flush out.
@@ -60,19 +48,17 @@ pub fn flush(
     ensures hold { hold.new ≡ flush_hold tree.old counts.old hold.old body.now }
     ensures map { map.new ≡ flush_map tree.old counts.old hold.old map.old body.now }
 {
-    let k = bodies::used(body[0]);
-    let is = &body[1..8];
-    let fs = &body[8..15];
+    let path = bodies::path_of(body);
     let c = body[15];
     let gc = body[16];
     let f = NodeUnit(body[17]);
     let g = NodeUnit(body[18]);
     let units = [body[17], body[18]];
-    let ends = pathed::ends_of(tree, &is[..k], c);
+    let ends = pathed::ends_of(tree, path.indexes, c);
     let n = ends.node;
     let buffers = n.buffers;
     let offset = shapes::offset_of(n, c);
-    let copied = pathed::copy(tree, counts, map, &is[..k], &fs[..k], &units, f);
+    let copied = pathed::copy(tree, counts, map, path, &units, f);
     counting::add_node(tree, counts, f, shapes::flush_parent(n, c, gc, g));
     counting::add_node(tree, counts, g, shapes::flush_child(n, ends.below, c));
     let target = ends.target.unwrap_or(NodeUnit(NodeUnit::NONE));

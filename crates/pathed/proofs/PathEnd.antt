@@ -26,9 +26,9 @@ use Rattle.path.specs.Standing.{TreeIs}
 use Rattle.path.specs.Graph.{found, named}
 use Rattle.path.proofs.Paths.{node_in_lem}
 use Rattle.shapes.specs.Ends.{sound_fits}
-use Rattle.bodies.specs.Bodies.{used_of, unit_of, is_found}
+use Rattle.bodies.specs.Bodies.{used_of, used_part, unit_of, is_found}
 use Rattle.bodies.proofs.Bodies.{used_is, target_is}
-use Rattle.pathed.specs.Pathed.{used_part, target_unit, target_node, child_unit, child_node, leads_in, leads_to_in}
+use Rattle.pathed.specs.Pathed.{target_unit, target_node, child_unit, child_node, leads_in, leads_to_in}
 
 -- ---- bytes
 

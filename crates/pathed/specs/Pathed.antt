@@ -3,21 +3,17 @@
 use Rattle.std.specs.Prelude.{Bool, ◌&&◌, List, [], ◌∷◌, ◌++◌, ℕ, ltb, length, get_or, set, take}
 use Rattle.units.specs.Bodies.{indexes}
 use Rattle.ways.specs.Ways.{spine}
-use Rattle.rules.specs.Tables.{keys, slice}
+use Rattle.rules.specs.Tables.{keys}
 use Rattle.records.specs.Rows.{eight}
 use Rattle.counting.specs.declared.Node.{Node}
 use Rattle.counting.specs.Nodes.{node_in, put_node}
 use Rattle.counting.specs.Change.{drop_trees, drop_counts, add_counts}
 use Rattle.path.specs.Graph.{named, eight_in, top_of, copied_tree}
-use Rattle.bodies.specs.Bodies.{used_of, target_in, unit_of, is_found}
+use Rattle.bodies.specs.Bodies.{target_in, unit_of, is_found}
 use Rattle.allocation.specs.Going.{let_go_maps}
 use Rattle.state.specs.Standing.{marks}
 use Rattle.pathed.specs.declared.Ends.{Ends}
 use Rattle.pathed.specs.declared.Copied.{Copied}
-
--- the used ones of the seven bytes from `at` on
-abbrev pub used_part : List ℕ → ℕ → ℕ → List ℕ
-used_part b at d = take (used_of d) (slice at indexes b)
 
 -- ---- the path's end
 

@@ -10,6 +10,7 @@ ghost use Rattle.allocation.specs.Going.{let_go_maps};
 ghost use Rattle.allocation.specs.Fresh.{fresh_in};
 ghost use Rattle.pathed.specs.Pathed.{ends_in, copied_from, copy_tree, going};
 
+use bodies::Path;
 use counting::Node;
 use units::NodeUnit;
 
@@ -73,20 +74,20 @@ pub fn copy(
     tree: &mut [u8; 6656],
     counts: &mut [u16; 512],
     map: &mut [u64; 4],
-    path: &[u8],
-    fresh: &[u8],
+    path: Path<'_>,
     new: &[u8],
     f: NodeUnit,
 ) -> Copied
-    ensures tree { tree.new ≡ copy_tree tree.old path.now fresh.now f.0 }
-    ensures counts { counts.new ≡ add_counts counts.old (take (length path.now) fresh.now) }
-    ensures map { map.new ≡ marks (marks map.old fresh.now) new.now }
-    ensures copied { result ≡ copied_from tree.old path.now fresh.now f.0 }
+    ensures tree { tree.new ≡ copy_tree tree.old path.entry.indexes.now path.entry.fresh.now f.0 }
+    ensures counts { counts.new
+        ≡ add_counts counts.old (take (length path.entry.indexes.now) path.entry.fresh.now) }
+    ensures map { map.new ≡ marks (marks map.old path.entry.fresh.now) new.now }
+    ensures copied { result ≡ copied_from tree.old path.entry.indexes.now path.entry.fresh.now f.0 }
 {
     let root = counting::root(tree);
-    let spine = path::spine_of(tree, path, root);
-    let top = path::copy_path(tree, counts, path, fresh, root, f);
-    allocation::hold_run(map, fresh);
+    let spine = path::spine_of(tree, path.indexes, root);
+    let top = path::copy_path(tree, counts, path.indexes, path.fresh, root, f);
+    allocation::hold_run(map, path.fresh);
     allocation::hold_run(map, new);
     Copied { spine, top }
 }

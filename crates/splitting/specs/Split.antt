@@ -10,7 +10,8 @@ use Rattle.shapes.specs.Shapes.{split_parent, left_of, right_of}
 use Rattle.shapes.specs.Questions.{split_share_fits, room_for_child}
 use Rattle.allocation.specs.Fresh.{fresh_in}
 use Rattle.allocation.specs.Gains.{gains_fit}
-use Rattle.pathed.specs.Pathed.{used_part, target_node, child_unit, child_node, leads_to_in, pathed_tree, pathed_counts, pathed_map}
+use Rattle.bodies.specs.Bodies.{used_part}
+use Rattle.pathed.specs.Pathed.{target_node, child_unit, child_node, leads_to_in, pathed_tree, pathed_counts, pathed_map}
 
 abbrev pub split_step : List ℕ → Step
 split_step b =

@@ -16,33 +16,21 @@ pub fn split_tests(
 ) -> [bool; 9]
     ensures { result ≡ split_tests tree.now counts.now map.now body.now }
 {
-    let d = body[0];
-    let k = bodies::used(d);
-    let is = &body[1..8];
-    let fs = &body[8..15];
+    let path = bodies::path_of(body);
     let c = body[15];
-    let ends = pathed::ends_of(tree, &is[..k], c);
+    let ends = pathed::ends_of(tree, path.indexes, c);
     let n = ends.node;
     let m = ends.below;
     let buffers = m.buffers;
     let units = [body[17], body[18], body[19]];
-    let shape = bodies::path_shape(d, is, fs) && pathed::is_index(c);
+    let shape = bodies::path_shape(body) && pathed::is_index(c);
+    let leads = ends.leads_to;
     let range = shapes::split_share_fits(m, body[16]);
     let small = shapes::room_for_child(n);
-    let fresh = pathed::fresh_units(map, &fs[..k], &units);
+    let fresh = pathed::fresh_units(map, path.fresh, &units);
     let gained = counting::part(&buffers, 0, m.buffer_number);
     let fit = allocation::gains_fit(counts, gained, &[]);
-    [
-        shape,
-        true,
-        ends.leads_to,
-        range,
-        true,
-        small,
-        true,
-        fresh,
-        fit,
-    ]
+    [shape, true, leads, range, true, small, true, fresh, fit]
 }
 
 // Carries an accepted split out.
@@ -51,19 +39,17 @@ pub fn split(tree: &mut [u8; 6656], counts: &mut [u16; 512], map: &mut [u64; 4],
     ensures counts { counts.new ≡ split_counts tree.old counts.old body.now }
     ensures map { map.new ≡ split_map tree.old counts.old map.old body.now }
 {
-    let k = bodies::used(body[0]);
-    let is = &body[1..8];
-    let fs = &body[8..15];
+    let path = bodies::path_of(body);
     let c = body[15];
     let a = body[16];
     let f = NodeUnit(body[17]);
     let l = NodeUnit(body[18]);
     let r = NodeUnit(body[19]);
     let units = [body[17], body[18], body[19]];
-    let ends = pathed::ends_of(tree, &is[..k], c);
+    let ends = pathed::ends_of(tree, path.indexes, c);
     let n = ends.node;
     let m = ends.below;
-    let copied = pathed::copy(tree, counts, map, &is[..k], &fs[..k], &units, f);
+    let copied = pathed::copy(tree, counts, map, path, &units, f);
     counting::add_node(tree, counts, f, shapes::split_parent(n, c, l, r));
     counting::add_node(tree, counts, l, shapes::left_of(m, a));
     counting::add_node(tree, counts, r, shapes::right_of(m, a));

@@ -3,7 +3,7 @@ use Rattle.flushing.proofs.flush.Goals as goal
 
 pub returns-clause-tree : goal.returns-clause-tree
 returns-clause-tree c =
-    tree_is _ _ _ _ _ _ _ c.used-k.ensures.1 c.ends_of-ends.ensures c.offset_of-offset.ensures
+    tree_is _ _ _ _ _ _ _ _ c.path_of-path.ensures.indexes c.path_of-path.ensures.fresh c.ends_of-ends.ensures c.offset_of-offset.ensures
     _ _ _ _ _ _ _ _ _ _ _
     c.unwrap_or-target.ensures c.copy-copied.ensures.tree c.copy-copied.ensures.counts c.copy-copied.ensures.map c.copy-copied.ensures.copied
     c.flush_parent.ensures c.flush_child.ensures
@@ -12,7 +12,7 @@ returns-clause-tree c =
 
 pub returns-clause-counts : goal.returns-clause-counts
 returns-clause-counts c =
-    counts_are _ _ _ _ _ _ _ c.used-k.ensures.1 c.ends_of-ends.ensures c.offset_of-offset.ensures
+    counts_are _ _ _ _ _ _ _ _ c.path_of-path.ensures.indexes c.path_of-path.ensures.fresh c.ends_of-ends.ensures c.offset_of-offset.ensures
     _ _ _ _ _ _ _ _ _ _ _
     c.unwrap_or-target.ensures c.copy-copied.ensures.tree c.copy-copied.ensures.counts c.copy-copied.ensures.map c.copy-copied.ensures.copied
     c.flush_parent.ensures c.flush_child.ensures
@@ -21,7 +21,7 @@ returns-clause-counts c =
 
 pub returns-clause-hold : goal.returns-clause-hold
 returns-clause-hold c =
-    hold_is _ _ _ _ _ _ _ c.used-k.ensures.1 c.ends_of-ends.ensures c.offset_of-offset.ensures
+    hold_is _ _ _ _ _ _ _ _ c.path_of-path.ensures.indexes c.path_of-path.ensures.fresh c.ends_of-ends.ensures c.offset_of-offset.ensures
     _ _ _ _ _ _ _ _ _ _ _
     c.unwrap_or-target.ensures c.copy-copied.ensures.tree c.copy-copied.ensures.counts c.copy-copied.ensures.map c.copy-copied.ensures.copied
     c.flush_parent.ensures c.flush_child.ensures
@@ -30,7 +30,7 @@ returns-clause-hold c =
 
 pub returns-clause-map : goal.returns-clause-map
 returns-clause-map c =
-    map_is _ _ _ _ _ _ _ c.used-k.ensures.1 c.ends_of-ends.ensures c.offset_of-offset.ensures
+    map_is _ _ _ _ _ _ _ _ c.path_of-path.ensures.indexes c.path_of-path.ensures.fresh c.ends_of-ends.ensures c.offset_of-offset.ensures
     _ _ _ _ _ _ _ _ _ _ _
     c.unwrap_or-target.ensures c.copy-copied.ensures.tree c.copy-copied.ensures.counts c.copy-copied.ensures.map c.copy-copied.ensures.copied
     c.flush_parent.ensures c.flush_child.ensures

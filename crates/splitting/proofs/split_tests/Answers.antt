@@ -12,5 +12,5 @@ returns c =
     let b = c.args.body.now in
     let shape : c.if-path_shape.shape ≡ (path_shape (get_or b 0 0) (slice 1 indexes b) (slice 8 indexes b) && is_index (get_or b 15 0)) =
     elim c.if-path_shape.branch [ then-path_shape w ↦ search rules | else-path_shape w ↦ search rules ] in
-    tests_are _ _ _ _ _ _ c.used-k.ensures.1 c.ends_of-ends.ensures _ _ _ _ _ shape c.split_share_fits-range.ensures c.room_for_child-small.ensures c.fresh_units-fresh.ensures
+    tests_are _ _ _ _ _ _ _ c.path_of-path.ensures.indexes c.path_of-path.ensures.fresh c.ends_of-ends.ensures _ _ _ _ _ shape c.split_share_fits-range.ensures c.room_for_child-small.ensures c.fresh_units-fresh.ensures
     (c.gains_fit-fit.ensures ∙ ap (λ l. gains_fit c.args.counts.now l []) c.part-gained.ensures)
