@@ -1,24 +1,23 @@
 -- Flush where a right store stands: the tests agree with the rules, and an accepted flush leaves the next store standing. Assumes nothing.
-use mathlib.Core.Bool.{Bool, true, false, ◌&&◌, not}
-use mathlib.Core.Logic.{⊎_elim}
+use mathlib.Core.Bool.{Bool, true, ◌&&◌}
 use mathlib.Core.Path.{◌≡◌, refl, sym, ap, ap₂, ◌∙◌, subst}
 use mathlib.Core.List.{List, [], ◌∷◌, ◌++◌}
 use mathlib.Core.Option.{Option, none, some}
-use Prim.Native.Nat.{ℕ, ◌+◌, ◌-◌, ◌≤◌, ◌<◌}
+use Prim.Native.Nat.{ℕ, ◌+◌, ◌-◌, ◌≤◌}
 use native.Mathlib.Omega.{arith}
-use lib.Dec.{T, eqb, leb, ltb}
+use lib.Dec.{T, leb}
 use lib.ListN.{length, get_or, take, drop, length-drop, take-append-drop}
 use lib.Seq.{take_all}
-use borrow.Author.Tests.{ltb-true, eqb-true, leb-true, le-leb}
-use Rattle.units.specs.Limits.{last_unit, room}
+use borrow.Author.Tests.{leb-true, le-leb}
+use Rattle.units.specs.Limits.{room}
 use Rattle.units.specs.Bodies.{indexes}
-use Rattle.ways.specs.Ways.{has, follow, spine, is}
-use Rattle.ways.proofs.Tests.{T→eq, eq→T, and_l, and_r, or_e}
+use Rattle.ways.specs.Ways.{has, spine, is}
+use Rattle.ways.proofs.Tests.{T→eq, eq→T, and_r}
 use Rattle.ways.proofs.Frame.{sums_append}
 use Rattle.ways.proofs.Members.{pos_has}
 use Rattle.rules.specs.Tables.{all, slice, puts, times, is_some, or_else}
-use Rattle.rules.specs.Store.{Node, Store, blank, node_at, children_of, ways, places, in_buffers, held, in_use}
-use Rattle.rules.specs.Steps.{accepted, decide, change, extended, fit, fresh, small, path_shape, is_index, leads, leads_to, copies, flushed_offsets, flush_ends}
+use Rattle.rules.specs.Store.{Node, Store, blank, children_of, ways, places, in_buffers, held}
+use Rattle.rules.specs.Steps.{accepted, decide, change, extended, fit, fresh, small, leads_to, copies, flushed_offsets, flush_ends}
 use Rattle.rules.specs.Right.{Right}
 use Rattle.right.proofs.Steps.{Even, Passed, passed}
 use Rattle.right.proofs.Held.{fresh_unused}
@@ -27,7 +26,6 @@ use Rattle.right.proofs.Ledgers.{path_keys, flush_ledger}
 use Rattle.right.proofs.Counts.{flush_counts_lem, off_first}
 use Rattle.records.specs.Rows.{AllBytes, eight, eight_slice}
 use Rattle.eights.proofs.Places.{eight_take}
-use Rattle.counting.specs.Nodes.{coded}
 use Rattle.counting.specs.Places.{add_places, drop_places}
 use Rattle.path.specs.Standing.{TreeIs}
 use Rattle.tables.specs.Hold.{HoldIs}
@@ -37,42 +35,24 @@ use Rattle.shapes.specs.Shapes.{flush_parent, flush_child}
 use Rattle.shapes.specs.Questions.{gc_fits, flush_room}
 use Rattle.shapes.proofs.Shapes.{offset_coded, flush_parent_lem, flush_child_lem}
 use Rattle.shapes.proofs.Questions.{gc_fits_lem, copies_small, flush_room_lem}
-use Rattle.bodies.proofs.Bodies.{shape_low}
 use Rattle.state.specs.Standing.{CountsAre, MapIs}
 use Rattle.state.specs.Stands.{Arrays, Stands}
 use Rattle.state.proofs.Changes.{places_after, hold_after, map_after, gone_branch}
-use Rattle.allocation.specs.Fresh.{fresh_in}
 use Rattle.allocation.specs.Gains.{fits_count, gains_fit}
 use Rattle.allocation.specs.Sweep.{sweep_hold, sweep_map}
-use Rattle.allocation.proofs.Fresh.{fresh_is}
 use Rattle.allocation.proofs.Gains.{low_slice, gains_fit_is}
 use Rattle.allocation.proofs.Going.{eight_low}
 use Rattle.allocation.proofs.Swept.{sweep_hold_eight, sweep_map_eight}
-use Rattle.pathed.specs.Pathed.{target_node, child_unit, child_node, leads_to_in, going_in, pathed_tree, pathed_counts, pathed_map}
-use Rattle.pathed.proofs.PathEnd.{used_part_lem, used_low, even_parts, buffer_unit, buffers_low, leads_to_is, leads_first, target_node_lem, child_unit_lem, child_place, child_there, child_node_lem}
-use Rattle.pathed.proofs.Accepted.{coded_all, low_append, going_same, pathed_tree_lem, pathed_counts_lem, pathed_map_lem}
+use Rattle.pathed.specs.Pathed.{child_unit, pathed_counts, pathed_map}
+use Rattle.pathed.proofs.PathEnd.{even_parts, buffer_unit, buffers_low}
+use Rattle.pathed.proofs.Accepted.{Came, coded_all}
+use Rattle.pathed.proofs.Body.{parts, depth, target_is, child_is, place, lines_agree, path_came}
 use Rattle.pathed.proofs.Fit.{ends_move, fit_moved}
-use Rattle.pathed.proofs.Branches.{none_at_zero, branches_few, zero_out}
+use Rattle.pathed.proofs.Branches.{none_at_zero, branches_few, zero_out, died}
 use Rattle.flushing.specs.Flush.{flush_step, flush_path, flush_fresh, flush_units, parent_in, child_in, offset_in, flush_tests, flush_nodes, flush_tree, flush_counts, flush_hold, flush_map}
 
 module _ (s : Store) (r : Right s) (x : Arrays) (st : Stands s x) (b : List ℕ) (long : length b ≡ 19) (by : AllBytes b) where
-  abbrev d : ℕ
-  d = get_or b 0 0
-
-  abbrev idx : List ℕ
-  idx = slice 1 indexes b
-
-  abbrev fs : List ℕ
-  fs = slice 8 indexes b
-
-  abbrev p : List ℕ
-  p = take d idx
-
-  abbrev q : List ℕ
-  q = take d fs
-
-  abbrev c : ℕ
-  c = get_or b 15 0
+  open parts s b use {d, idx, fs, p, q, c, t, n, h, m}
 
   abbrev gc : ℕ
   gc = get_or b 16 0
@@ -82,18 +62,6 @@ module _ (s : Store) (r : Right s) (x : Arrays) (st : Stands s x) (b : List ℕ)
 
   abbrev g : ℕ
   g = get_or b 18 0
-
-  abbrev t : ℕ
-  t = follow (children_of s) p s.root
-
-  abbrev n : Node
-  n = node_at s t
-
-  abbrev h : ℕ
-  h = get_or n.children c 0
-
-  abbrev m : Node
-  m = node_at s h
 
   abbrev offset : ℕ
   offset = get_or n.offsets c 0
@@ -126,13 +94,13 @@ module _ (s : Store) (r : Right s) (x : Arrays) (st : Stands s x) (b : List ℕ)
       eight_slice n.buffers offset (length n.buffers) fits_n.few_buffers within (omega arith)
       ∙ take_all (length n.buffers - offset) (drop offset n.buffers) (omega (arith, length-drop offset n.buffers))
 
+  gone : gc ≤ length n.buffers → slice 0 (gc - 0) (eight n.buffers) ≡ take gc n.buffers
+  gone few = let less : gc - 0 ≡ gc = omega arith in ap (λ (k : ℕ). take k (eight n.buffers)) less ∙ eight_take n.buffers gc fits_n.few_buffers few
+
   cut : (v : ℕ) → times v (take gc n.buffers) + times v (drop gc n.buffers) ≡ times v n.buffers
   cut v = sym (sums_append (is v) (take gc n.buffers) (drop gc n.buffers)) ∙ ap (times v) (take-append-drop gc n.buffers)
 
   -- ---- the lines, each where those before it pass
-
-  depth : (path_shape d idx fs && is_index c) ≡ true → d ≤ indexes
-  depth e = shape_low d idx fs (T→eq (path_shape d idx fs) (and_l (path_shape d idx fs) (is_index c) (eq→T (path_shape d idx fs && is_index c) e)))
 
   abbrev ranged : Bool
   ranged = all (λ o. leb gc o) (flushed_offsets n c) && leb gc (length n.buffers)
@@ -140,92 +108,38 @@ module _ (s : Store) (r : Right s) (x : Arrays) (st : Stands s x) (b : List ℕ)
   gone_fits : ranged ≡ true → gc ≤ length n.buffers
   gone_fits e = leb-true gc (length n.buffers) (T→eq (leb gc (length n.buffers)) (and_r (all (λ o. leb gc o) (flushed_offsets n c)) (leb gc (length n.buffers)) (eq→T ranged e)))
 
-  module _ (dl : d ≤ indexes) where
-    path_is : flush_path b ≡ p
-    path_is = used_part_lem b by d 1 dl
+  module _ (dl : d ≤ indexes) (way : T (leads_to s p c)) where
+    offset_is : offset_in x.tree b ≡ offset
+    offset_is = ap (λ (y : Rattle.counting.specs.declared.Node.Node). get_or y.offsets c 0) (target_is s r x st b by dl way) ∙ offset_coded n fits_n c
 
-    fresh_are : flush_fresh b ≡ q
-    fresh_are = used_part_lem b by d 8 dl
+    line_range : gc_fits (parent_in x.tree b) c gc ≡ ranged
+    line_range = ap (λ (y : Rattle.counting.specs.declared.Node.Node). gc_fits y c gc) (target_is s r x st b by dl way) ∙ gc_fits_lem n fits_n c gc (place s r x st b by dl way)
 
-    line_path : leads_to_in x.tree (flush_path b) c ≡ leads_to s p c
-    line_path = ap (λ (l : List ℕ). leads_to_in x.tree l c) path_is ∙ leads_to_is s r.sound x.tree st.tree p c
+    line_small : flush_room (parent_in x.tree b) (child_in x.tree b) c ≡ all small (copies s p q s.root f ++ ends)
+    line_small =
+        ap₂ (λ (y z : Rattle.counting.specs.declared.Node.Node). flush_room y z c) (target_is s r x st b by dl way) (child_is s r x st b by dl way)
+        ∙ sym (copies_small s (sound_fits s r.sound) p q s.root f ends ∙ flush_room_lem n fits_n m fits_m c gc f g)
 
-    line_fresh : fresh_in x.map (flush_fresh b ++ flush_units b) ≡ fresh s (q ++ flush_units b)
-    line_fresh =
-        ap (λ (l : List ℕ). fresh_in x.map (l ++ flush_units b)) fresh_are
-        ∙ fresh_is s (q ++ flush_units b) x.map (low_append q (flush_units b) (used_low b by d 8) (omega (arith, by.small 17), (omega (arith, by.small 18), tt))) st.map
-
-    -- the buffers that go
-    gone : gc ≤ length n.buffers → slice 0 (gc - 0) (eight n.buffers) ≡ take gc n.buffers
-    gone few = let less : gc - 0 ≡ gc = omega arith in ap (λ (k : ℕ). take k (eight n.buffers)) less ∙ eight_take n.buffers gc fits_n.few_buffers few
-
-    module _ (way : T (leads_to s p c)) where
-      leads_there : T (leads s p)
-      leads_there = leads_first s r.sound x.tree st.tree p c way
-
-      parent_is : parent_in x.tree b ≡ coded n
-      parent_is = ap (target_node x.tree) path_is ∙ target_node_lem s r.sound x.tree st.tree p leads_there
-
-      child_is : child_in x.tree b ≡ coded m
-      child_is = ap (λ (l : List ℕ). child_node x.tree l c) path_is ∙ child_node_lem s r.sound x.tree st.tree p c way
-
-      unit_is : child_unit x.tree (flush_path b) c ≡ h
-      unit_is = ap (λ (l : List ℕ). child_unit x.tree l c) path_is ∙ child_unit_lem s r.sound x.tree st.tree p leads_there c
-
-      offset_is : offset_in x.tree b ≡ offset
-      offset_is = ap (λ (y : Rattle.counting.specs.declared.Node.Node). get_or y.offsets c 0) parent_is ∙ offset_coded n fits_n c
-
-      place : c < length n.children
-      place = child_place s r.sound x.tree st.tree p c way
-
-      line_range : gc_fits (parent_in x.tree b) c gc ≡ ranged
-      line_range = ap (λ (y : Rattle.counting.specs.declared.Node.Node). gc_fits y c gc) parent_is ∙ gc_fits_lem n fits_n c gc place
-
-      line_small : flush_room (parent_in x.tree b) (child_in x.tree b) c ≡ all small (copies s p q s.root f ++ ends)
-      line_small =
-          ap₂ (λ (y z : Rattle.counting.specs.declared.Node.Node). flush_room y z c) parent_is child_is
-          ∙ sym (copies_small s (sound_fits s r.sound) p q s.root f ends ∙ flush_room_lem n fits_n m fits_m c gc f g)
-
-      line_fit : gc ≤ length n.buffers → fresh s (q ++ flush_units b) ≡ true
-          → gains_fit x.counts (slice (offset_in x.tree b) ((parent_in x.tree b).buffer_number - offset_in x.tree b) (parent_in x.tree b).buffers) (slice 0 (gc - 0) (parent_in x.tree b).buffers) ≡ fit (extended s (change s (flush_step b)))
-      unfolding change
-      line_fit few new =
-          ap₂ (λ (y : Rattle.counting.specs.declared.Node.Node) (o : ℕ). gains_fit x.counts (slice o (y.buffer_number - o) y.buffers) (slice 0 (gc - 0) y.buffers)) parent_is offset_is
-          ∙ gains_fit_is (ways s) (places s) x.counts (slice offset (length n.buffers - offset) (eight n.buffers)) (slice 0 (gc - 0) (eight n.buffers)) st.counts
-          (low_slice offset (length n.buffers - offset) (eight n.buffers) (eight_low n.buffers (buffers_low s r.sound t)))
-          ∙ ap₂ (λ (l k : List ℕ). all (λ v. fits_count (places s v) l k v) l) come (gone few)
-          ∙ fit_moved s r (change s (flush_step b)) (path_keys s r.sound d idx fs even f ends)
-          (flush_ledger s r.sound d idx fs even c gc f g way (subst (λ (z : Bool). T z) (fresh_unused s r (q ++ flush_units b)) (eq→T (fresh s (q ++ flush_units b)) new)))
-          new (drop offset n.buffers) (take gc n.buffers)
-          (λ v. ends_move s v p q s.root f ends (t ∷ h ∷ []) (drop offset n.buffers) (take gc n.buffers) even
-          (omega (arith, cut v, sums_append (is v) m.buffers (drop offset n.buffers))))
-          (λ v o. buffer_unit s r.sound t v (Rattle.right.proofs.Lists.has_drop v offset n.buffers o))
+    line_fit : gc ≤ length n.buffers → fresh s (q ++ flush_units b) ≡ true
+        → gains_fit x.counts (slice (offset_in x.tree b) ((parent_in x.tree b).buffer_number - offset_in x.tree b) (parent_in x.tree b).buffers) (slice 0 (gc - 0) (parent_in x.tree b).buffers) ≡ fit (extended s (change s (flush_step b)))
+    unfolding change
+    line_fit few new =
+        ap₂ (λ (y : Rattle.counting.specs.declared.Node.Node) (o : ℕ). gains_fit x.counts (slice o (y.buffer_number - o) y.buffers) (slice 0 (gc - 0) y.buffers)) (target_is s r x st b by dl way) offset_is
+        ∙ gains_fit_is (ways s) (places s) x.counts (slice offset (length n.buffers - offset) (eight n.buffers)) (slice 0 (gc - 0) (eight n.buffers)) st.counts
+        (low_slice offset (length n.buffers - offset) (eight n.buffers) (eight_low n.buffers (buffers_low s r.sound t)))
+        ∙ ap₂ (λ (l k : List ℕ). all (λ v. fits_count (places s v) l k v) l) come (gone few)
+        ∙ fit_moved s r (change s (flush_step b)) (path_keys s r.sound d idx fs even f ends)
+        (flush_ledger s r.sound d idx fs even c gc f g way (subst (λ (z : Bool). T z) (fresh_unused s r (q ++ flush_units b)) (eq→T (fresh s (q ++ flush_units b)) new)))
+        new (drop offset n.buffers) (take gc n.buffers)
+        (λ v. ends_move s v p q s.root f ends (t ∷ h ∷ []) (drop offset n.buffers) (take gc n.buffers) even
+        (omega (arith, cut v, sums_append (is v) m.buffers (drop offset n.buffers))))
+        (λ v o. buffer_unit s r.sound t v (Rattle.right.proofs.Lists.has_drop v offset n.buffers o))
 
   pub flush_agree : Agree (flush_tests x.tree x.counts x.map b) (tests_of s (change s (flush_step b)))
   unfolding change flush_tests
-  flush_agree = (
-    refl,
-    λ h4. (
-      refl,
-      λ h5. (
-        line_path (depth h4),
-        λ h6. (
-          line_range (depth h4) (eq→T (leads_to s p c) h6),
-          λ h7. (
-            refl,
-            λ h8. (
-              line_small (depth h4) (eq→T (leads_to s p c) h6),
-              λ h9. (
-                refl,
-                λ h10.
-                    (line_fresh (depth h4), λ h11. (line_fit (depth h4) (eq→T (leads_to s p c) h6) (gone_fits h7) h11, λ h12. tt)),
-              ),
-            ),
-          ),
-        ),
-      ),
-    ),
-  )
+  flush_agree =
+      lines_agree s r x st b by (flush_units b) (omega (arith, by.small 17), (omega (arith, by.small 18), tt)) _ _ _ _ _ _
+      line_range (λ dl way z. line_small dl way) (λ dl way z new. line_fit dl way (gone_fits z) new)
 
   -- ---- an accepted flush
 
@@ -239,7 +153,7 @@ module _ (s : Store) (r : Right s) (x : Arrays) (st : Stands s x) (b : List ℕ)
 
     dl : d ≤ indexes
     unfolding change
-    dl = depth (T→eq (path_shape d idx fs && is_index c) ok.shape)
+    dl = depth s r x st b by ok.shape
 
     way : T (leads_to s p c)
     unfolding change
@@ -258,19 +172,16 @@ module _ (s : Store) (r : Right s) (x : Arrays) (st : Stands s x) (b : List ℕ)
 
     nodes_are : flush_nodes x.tree b ≡ coded_all ends
     nodes_are =
-        ap₂ (λ (y z : Rattle.counting.specs.declared.Node.Node). (f, flush_parent y c gc g) ∷ (g, flush_child y z c) ∷ []) (parent_is dl way) (child_is dl way)
-        ∙ ap₂ (λ (y z : Rattle.counting.specs.declared.Node.Node). (f, y) ∷ (g, z) ∷ []) (flush_parent_lem n fits_n c gc g (place dl way)) (flush_child_lem n fits_n m fits_m c roomy)
+        ap₂ (λ (y z : Rattle.counting.specs.declared.Node.Node). (f, flush_parent y c gc g) ∷ (g, flush_child y z c) ∷ []) (target_is s r x st b by dl way) (child_is s r x st b by dl way)
+        ∙ ap₂ (λ (y z : Rattle.counting.specs.declared.Node.Node). (f, y) ∷ (g, z) ∷ []) (flush_parent_lem n fits_n c gc g (place s r x st b by dl way)) (flush_child_lem n fits_n m fits_m c roomy)
 
-    child_low : h ≤ last_unit
-    child_low = (r.sound.node_unit h (child_there s r.sound x.tree st.tree p c way)).1
+    came : Came s s' x (flush_step b) f ends (flush_path b) (flush_fresh b) (child_unit x.tree (flush_path b) c)
+    unfolding change
+    came = path_came s r x st b by dl way (flush_step b) ev s' e f ends even refl refl refl
 
     tree_stands : TreeIs s'.root s'.nodes (flush_tree x.tree x.counts b)
     unfolding change flush_tree
-    tree_stands =
-        subst (λ (l : List ℕ). TreeIs s'.root s'.nodes l)
-        (sym (ap₂ (λ (es : List (ℕ × Rattle.counting.specs.declared.Node.Node)) (u : ℕ). pathed_tree x.tree x.counts (flush_path b) (flush_fresh b) f es u) nodes_are (unit_is dl way)
-        ∙ ap₂ (λ (l k : List ℕ). pathed_tree x.tree x.counts l k f (coded_all ends) h) (path_is dl) (fresh_are dl)))
-        (pathed_tree_lem s r (flush_step b) ev s' e x st p q f ends h (h ∷ []) (leads_there dl way) even refl refl refl child_low (λ v o. refl) (λ v o. refl))
+    tree_stands = rw (nodes_are) came.tree
 
     moved : (v : ℕ) → places s' v + times v (take gc n.buffers) ≡ places s v + times v (drop offset n.buffers)
     moved = flush_counts_lem s r s' d idx fs c gc f g even e
@@ -279,14 +190,10 @@ module _ (s : Store) (r : Right s) (x : Arrays) (st : Stands s x) (b : List ℕ)
     unfolding change flush_counts
     counts_stand =
         subst (λ (l : List ℕ). CountsAre (ways s') (places s') l)
-        (sym (ap₂ add_places
-        (ap₂ drop_places
-        (ap (λ (u : ℕ). pathed_counts x.tree x.counts (flush_path b) (flush_fresh b) (flush_units b) u) (unit_is dl way)
-        ∙ ap₂ (λ (l k : List ℕ). pathed_counts x.tree x.counts l k (flush_units b) h) (path_is dl) (fresh_are dl))
-        (ap (λ (y : Rattle.counting.specs.declared.Node.Node). slice 0 (gc - 0) y.buffers) (parent_is dl way) ∙ gone dl few))
-        (ap₂ (λ (y : Rattle.counting.specs.declared.Node.Node) (o : ℕ). slice o (y.buffer_number - o) y.buffers) (parent_is dl way) (offset_is dl way) ∙ come)))
-        (places_after s r (flush_step b) ev s' e (pathed_counts x.tree x.counts p q (flush_units b) h) (take gc n.buffers) (drop offset n.buffers)
-        (pathed_counts_lem s r (flush_step b) ev s' e x st p q f ends h (h ∷ []) (leads_there dl way) even refl refl refl child_low (λ v o. refl) (λ v o. refl))
+        (sym (ap₂ (λ (k l : List ℕ). add_places (drop_places (pathed_counts x.tree x.counts (flush_path b) (flush_fresh b) (flush_units b) (child_unit x.tree (flush_path b) c)) k) l)
+        (ap (λ (y : Rattle.counting.specs.declared.Node.Node). slice 0 (gc - 0) y.buffers) (target_is s r x st b by dl way) ∙ gone few)
+        (ap₂ (λ (y : Rattle.counting.specs.declared.Node.Node) (o : ℕ). slice o (y.buffer_number - o) y.buffers) (target_is s r x st b by dl way) (offset_is dl way) ∙ come)))
+        (places_after s r (flush_step b) ev s' e _ (take gc n.buffers) (drop offset n.buffers) came.counts
         moved
         (λ v. omega (
           arith,
@@ -298,24 +205,10 @@ module _ (s : Store) (r : Right s) (x : Arrays) (st : Stands s x) (b : List ℕ)
     -- a branch that dies lost a place among the first gc
     cover : (v : ℕ) → T (is_some (puts s.branches (change s (flush_step b)).joins v)) → T (gone_branch s r (flush_step b) ev s' e v) → T (has v n.buffers)
     unfolding change
-    cover v o w =
-        ⊎_elim
-        (λ (z : T (ltb 0 (places s v))).
-        has_take v gc n.buffers (pos_has v (take gc n.buffers) (omega (
-          arith,
-          ltb-true 0 (places s v) (T→eq (ltb 0 (places s v)) z),
-          moved v,
-          eqb-true (places s' v) 0 (T→eq (eqb (places s' v) 0) (and_l (eqb (places s' v) 0) (not (in_use s.inputs v)) w)),
-        ))))
-        (λ (z : T (in_use s.inputs v)). absurd (both (in_use s.inputs v) z (and_r (eqb (places s' v) 0) (not (in_use s.inputs v)) w)))
-        (or_e (ltb 0 (places s v)) (in_use s.inputs v) (r.live_branch v o))
-      where
-        both : (z : Bool) → T z → T (not z) → ⊥
-        both true o n = n
-        both false o n = o
+    cover v o w = let z = died s r s' v o w in has_take v gc n.buffers (pos_has v (take gc n.buffers) (omega (arith, z.0, z.1, moved v)))
 
     buffers_are_lem : (parent_in x.tree b).buffers ≡ eight n.buffers
-    buffers_are_lem = ap (λ (y : Rattle.counting.specs.declared.Node.Node). y.buffers) (parent_is dl way)
+    buffers_are_lem = ap (λ (y : Rattle.counting.specs.declared.Node.Node). y.buffers) (target_is s r x st b by dl way)
 
     hold_stands : HoldIs s'.branches s'.slots s'.inputs (flush_hold x.tree x.counts x.hold b)
     unfolding change flush_hold
@@ -327,17 +220,14 @@ module _ (s : Store) (r : Right s) (x : Arrays) (st : Stands s x) (b : List ℕ)
     map_stands : MapIs (held s') (flush_map x.tree x.counts x.hold x.map b)
     unfolding change flush_map
     map_stands =
-        subst (λ (l : List ℕ). MapIs (held s') l)
-        (sym (ap₂ (λ (k l : List ℕ). sweep_map (flush_counts x.tree x.counts b) x.hold k l)
-        (ap (λ (u : ℕ). pathed_map x.tree x.counts x.map (flush_path b) (flush_fresh b) (flush_units b) u) (unit_is dl way)
-        ∙ ap₂ (λ (l k : List ℕ). pathed_map x.tree x.counts x.map l k (flush_units b) h) (path_is dl) (fresh_are dl))
-        buffers_are_lem))
-        (map_after s r (flush_step b) ev s' e n.buffers cover
-        (sweep_map (flush_counts x.tree x.counts b) x.hold (pathed_map x.tree x.counts x.map p q (flush_units b) h) (eight n.buffers)) (going_in x.tree p h)
-        (going_same s r (flush_step b) ev s' e x st p q f ends h (h ∷ []) (leads_there dl way) even refl refl refl child_low (λ v o. refl) (λ v o. refl))
+        let map : List ℕ = pathed_map x.tree x.counts x.map (flush_path b) (flush_fresh b) (flush_units b) (child_unit x.tree (flush_path b) c) in
+        subst (λ (l : List ℕ). MapIs (held s') (sweep_map (flush_counts x.tree x.counts b) x.hold map l)) (sym buffers_are_lem)
+        (map_after s r (flush_step b) ev s' e n.buffers cover (sweep_map (flush_counts x.tree x.counts b) x.hold map (eight n.buffers))
+        _
+        came.gone_same
         (λ v o k. refl) (λ v o. r.sound.branch_unit v o)
         (sweep_map_eight counts_stand r.sound.input_number r.sound.input n.buffers fits_n.few_buffers (buffers_low s r.sound t) (none_at_zero s r) st.hold (branches_few s r)
-        (pathed_map_lem s r (flush_step b) ev s' e x st p q f ends h (h ∷ []) (leads_there dl way) even refl refl refl child_low (λ v o. refl) (λ v o. refl))
+        came.map
         (zero_out s r (flush_step b) ev s' e _)))
 
     pub flush_stands : Stands s' (record {

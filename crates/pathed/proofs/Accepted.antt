@@ -90,6 +90,14 @@ spine_length k (i ∷ p) u = ap suc (spine_length k p (get_or (k u) i 0))
 
 -- ---- the law
 
+-- what stands once the step has been carried out: p and q the used indexes and fresh units, f stands for the target, es come and h goes besides
+pub record Came (s s' : Store) (a : Arrays) (m : Step) (f : ℕ) (es : List (ℕ × Node)) (p q : List ℕ) (h : ℕ) : Type 0 where
+  pub tree : TreeIs s'.root s'.nodes (pathed_tree a.tree a.counts p q f (coded_all es) h)
+  pub counts : CountsAre (ways s') (places s) (pathed_counts a.tree a.counts p q (keys es) h)
+  pub gone_same : Same (going_in a.tree p h) (change s m).drops
+  pub map : MapIs (λ v. (has v (keys (change s m).adds) || held s v) && not (gone (cond (has v (keys (change s m).adds)) 1 (ways s v)) (going_in a.tree p h) v))
+      (pathed_map a.tree a.counts a.map p q (keys es) h)
+
 module _ (s : Store) (r : Right s) (m : Step) (ev : Even m) (s' : Store) (e : decide s (change s m) ≡ accepted s') (a : Arrays) (st : Stands s a)
     (p q : List ℕ) (f : ℕ) (es : List (ℕ × Node)) (h : ℕ) (hs : List ℕ)
     (way : T (leads s p)) (even : length q ≡ length p)
@@ -160,7 +168,7 @@ module _ (s : Store) (r : Right s) (m : Step) (ev : Even m) (s' : Store) (e : de
   dropped_low : (x : ℕ) → T (has x (walked ++ (goal ∷ hs))) → x ≤ last_unit
   dropped_low x t = (drop_unit s r m ev s' e x (subst (λ (l : List ℕ). T (has x l)) (sym drops-are) t)).1
 
-  pub going_same : Same (going_in tree p h) (change s m).drops
+  going_same : Same (going_in tree p h) (change s m).drops
   going_same =
       subst (λ (l : List ℕ). Same l (change s m).drops) (sym going_is)
       (subst (λ (l : List ℕ). Same (going (eight walked) goal h) l) (sym drops-are)
@@ -183,20 +191,23 @@ module _ (s : Store) (r : Right s) (m : Step) (ev : Even m) (s' : Store) (e : de
 
   -- ---- the whole
 
-  pub pathed_tree_lem : TreeIs s'.root s'.nodes (pathed_tree tree counts p q f (coded_all es) h)
+  pathed_tree_lem : TreeIs s'.root s'.nodes (pathed_tree tree counts p q f (coded_all es) h)
   unfolding pathed_tree
   pathed_tree_lem =
       rw (coded_keys es, after_root s r (change s m) s' e ∙ root_is ∙ sym (top_of_lem p q f even))
       (tree_root (tree_after s r m ev s' e (put_nodes (copy_tree tree p q f) (coded_all es)) (come_counts counts p q (keys es)) (going_in tree p h) counts_come going_same tree_come) (top_of p q f))
 
-  pub pathed_counts_lem : CountsAre (ways s') (places s) (pathed_counts tree counts p q (keys es) h)
+  pathed_counts_lem : CountsAre (ways s') (places s) (pathed_counts tree counts p q (keys es) h)
   unfolding pathed_counts
   pathed_counts_lem = ways_after s r m ev s' e (put_nodes (copy_tree tree p q f) (coded_all es)) (come_counts counts p q (keys es)) (going_in tree p h) counts_come going_same
 
-  pub pathed_map_lem : MapIs (λ v. (has v (keys (change s m).adds) || held s v) && not (gone (cond (has v (keys (change s m).adds)) 1 (ways s v)) (going_in tree p h) v))
+  pathed_map_lem : MapIs (λ v. (has v (keys (change s m).adds) || held s v) && not (gone (cond (has v (keys (change s m).adds)) 1 (ways s v)) (going_in tree p h) v))
       (pathed_map tree counts a.map p q (keys es) h)
   unfolding pathed_map
   pathed_map_lem =
       map_same (λ v. (has v (keys (change s m).adds) || held s v) && not (gone (get_or (come_counts counts p q (keys es)) v 0) (going_in tree p h) v)) _ _
       (λ v o. ap (λ (n : ℕ). (has v (keys (change s m).adds) || held s v) && not (gone n (going_in tree p h) v)) (counts_come.way v o))
       (let_go_map_lem (going_in tree p h) (λ v. has v (keys (change s m).adds) || held s v) (marks (marks a.map q) (keys es)) (come_counts counts p q (keys es)) going_same.low counts_come.long map_come)
+
+  pub came : Came s s' a m f es p q h
+  came = record { tree = pathed_tree_lem; counts = pathed_counts_lem; gone_same = going_same; map = pathed_map_lem }

@@ -1,18 +1,21 @@
--- What a sweep asks of the branches of a right store: each a few units, none at 0, and unit 0 is never held. Assumes nothing.
-use mathlib.Core.Bool.{Bool, true, false, ◌||◌, ◌&&◌, cond}
+-- What a sweep asks of the branches of a right store: each a few units, none at 0, and unit 0 is never held; and a branch that dies had
+-- places. Assumes nothing.
+use mathlib.Core.Bool.{Bool, true, false, ◌||◌, ◌&&◌, not, cond}
+use mathlib.Core.Logic.{⊎_elim}
 use mathlib.Core.Path.{◌≡◌, refl, sym, ap₂, subst}
 use mathlib.Core.List.{List, [], ◌∷◌, ◌++◌}
 use mathlib.Core.Option.{Option, none, some}
 use Prim.Native.Nat.{ℕ, ◌≤◌}
 use native.Mathlib.Omega.{arith}
-use lib.Dec.{T, eqb, eqb_refl}
+use lib.Dec.{T, eqb, ltb, eqb_refl}
 use lib.ListN.{length}
+use borrow.Author.Tests.{ltb-true, eqb-true}
 use Rattle.units.specs.Limits.{last_unit, room}
 use Rattle.ways.specs.Ways.{has, flat}
-use Rattle.ways.proofs.Tests.{F→eq, or_l, or_r}
+use Rattle.ways.proofs.Tests.{T→eq, F→eq, eq→not, not→eq, and_l, and_r, or_e, or_l, or_r}
 use Rattle.ways.proofs.Members.{has_left, has_right}
 use Rattle.rules.specs.Tables.{is_some, or_else, put, keys, joined}
-use Rattle.rules.specs.Store.{Store, units, slot_units, units_of, owned, held}
+use Rattle.rules.specs.Store.{Store, units, slot_units, units_of, owned, places, held, in_use}
 use Rattle.rules.specs.Steps.{accepted, decide, Step, change}
 use Rattle.rules.specs.Right.{Right}
 use Rattle.right.specs.Ledger.{node_units}
@@ -62,6 +65,15 @@ module _ (s : Store) (r : Right s) where
   pub zero_out : (m : Step) → Even m → (s' : Store) → decide s (change s m) ≡ accepted s' → (z : Bool) → ((has 0 (keys (change s m).adds) || held s 0) && z) ≡ false
   zero_out m ev s' e z =
       ap₂ (λ (x y : Bool). (x || y) && z) (F→eq (has 0 (keys (change s m).adds)) (λ t. omega (arith, (key_unit s r m ev s' e 0 t).0))) (zero_free s r)
+
+  -- a branch that dies had places, and has none
+  pub died : (s' : Store) (v : ℕ) → T (is_some (s.branches v)) → T (eqb (places s' v) 0 && not (in_use s.inputs v)) → (1 ≤ places s v) × (places s' v ≡ 0)
+  died s' v o w = (
+    ⊎_elim (λ (z : T (ltb 0 (places s v))). omega (arith, ltb-true 0 (places s v) (T→eq (ltb 0 (places s v)) z)))
+        (λ (z : T (in_use s.inputs v)). absurd (eq→not (in_use s.inputs v) (not→eq (in_use s.inputs v) (and_r (eqb (places s' v) 0) (not (in_use s.inputs v)) w)) z))
+        (or_e (ltb 0 (places s v)) (in_use s.inputs v) (r.live_branch v o)),
+    eqb-true (places s' v) 0 (T→eq (eqb (places s' v) 0) (and_l (eqb (places s' v) 0) (not (in_use s.inputs v)) w)),
+  )
 
 -- one more branch
 pub few_put : (t : ℕ → Option (List ℕ)) → Few t → (b : ℕ) (us : List ℕ) → length us ≤ room → Low us → Few (put t (b, us))

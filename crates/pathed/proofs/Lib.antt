@@ -1,5 +1,6 @@
 pub mod Answers
 pub mod PathEnd
 pub mod Accepted
+pub mod Body
 pub mod Fit
 pub mod Branches
