@@ -20,7 +20,8 @@ pub const PLACES: usize = 256;
 
 // ---- nodes
 
-// A number beside each eight places, as the row has them: fixed memory, and a row that is not right may name more than eight.
+// A number beside each eight places, as the row has them: fixed memory, and a row that is not right may name more than eight. `node_in`,
+// which `read_node` promises, keeps each number beside its places.
 #[derive(Clone, Copy, Debug, Default, PartialEq, Eq)]
 pub struct Node {
     pub buffer_number: u8,
@@ -42,6 +43,7 @@ pub fn set_root(tree: &mut [u8; 6656], r: NodeUnit)
     tree[0] = r.0;
 }
 
+#[tactic(auto, unfolding(crate::specs::Nodes::node_in))]
 pub fn read_node(tree: &[u8; 6656], u: NodeUnit) -> Node
     ensures { result ≡ node_in tree.now u.0 }
 {
@@ -55,6 +57,7 @@ pub fn read_node(tree: &[u8; 6656], u: NodeUnit) -> Node
     }
 }
 
+#[tactic(auto, using(records::specs::Rows::eight_all))]
 fn bytes_of(n: Node) -> [u8; STRIDE]
     ensures { result ≡ bytes_of n }
 {
@@ -68,6 +71,7 @@ fn bytes_of(n: Node) -> [u8; STRIDE]
 }
 
 // Unit 0 has no node: its row holds the root, which stays.
+#[tactic(auto, unfolding(crate::specs::Nodes::put_node))]
 pub fn write_node(tree: &mut [u8; 6656], u: NodeUnit, n: Node)
     ensures { tree.new ≡ put_node tree.old u.0 n }
 {
@@ -85,6 +89,7 @@ pub fn ways_of(counts: &[u16; 512], u: NodeUnit) -> u16
     counts[usize::from(u.0)]
 }
 
+#[tactic(auto, unfolding(crate::specs::Change::last_way))]
 fn last_way(counts: &[u16; 512], u: NodeUnit) -> bool
     ensures { result ≡ last_way counts.now u.0 }
 {
@@ -92,6 +97,7 @@ fn last_way(counts: &[u16; 512], u: NodeUnit) -> bool
 }
 
 // One way to the node goes, and with the last way the node: the answer says whether it went.
+#[tactic(auto, using(crate::specs::Nodes::all_zero), unfolding(crate::specs::Change::blanked_if, crate::specs::Change::drop_count))]
 pub fn drop_way(tree: &mut [u8; 6656], counts: &mut [u16; 512], u: NodeUnit) -> bool
     ensures tree { tree.new ≡ drop_tree tree.old counts.old u.0 }
     ensures counts { counts.new ≡ drop_count counts.old u.0 }
