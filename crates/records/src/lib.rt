@@ -1,4 +1,4 @@
-// A record is a run of bytes at a place of a lent array: read eight bytes at a time, stored by one loop for every length.
+// A record is a run of bytes at a place of a lent array: read eight bytes at a time, stored whole by one copy of any length.
 #![tactic(auto)]
 
 ghost use Rattle.std.specs.Prelude.{◌≤◌, ◌+◌, ◌≡◌, length};
