@@ -10,7 +10,7 @@ ghost use Rattle.counting.specs.Nodes.{node_in, put_node, bytes_of};
 ghost use Rattle.counting.specs.Change.{last_way, drop_tree, drop_count};
 ghost use Rattle.counting.specs.Places.{place_of, Computes, change_places, add_place, add_places, drop_places};
 
-use units::{BranchRoot, NodeUnit};
+use units::{BranchRoot, NodeUnit, Unit};
 
 // The bytes of a node's row.
 const STRIDE: usize = 26;
@@ -47,7 +47,7 @@ pub fn set_root(tree: &mut [u8; 6656], r: NodeUnit)
 pub fn read_node(tree: &[u8; 6656], u: NodeUnit) -> Node
     ensures { result ≡ node_in tree.now u.0 }
 {
-    let at = usize::from(u.0) * STRIDE;
+    let at = u.index() * STRIDE;
     Node {
         buffer_number: tree[at],
         buffers: records::eight(tree, at + 1),
@@ -75,10 +75,10 @@ fn bytes_of(n: Node) -> [u8; STRIDE]
 pub fn write_node(tree: &mut [u8; 6656], u: NodeUnit, n: Node)
     ensures { tree.new ≡ put_node tree.old u.0 n }
 {
-    if u.0 == 0 {
+    if u.is_none() {
         return;
     }
-    records::pour(tree, usize::from(u.0) * STRIDE, &bytes_of(n));
+    records::pour(tree, u.index() * STRIDE, &bytes_of(n));
 }
 
 // ---- ways
@@ -86,14 +86,14 @@ pub fn write_node(tree: &mut [u8; 6656], u: NodeUnit, n: Node)
 pub fn ways_of(counts: &[u16; 512], u: NodeUnit) -> u16
     ensures { result ≡ get_or counts.now u.0 0 }
 {
-    counts[usize::from(u.0)]
+    counts[u.index()]
 }
 
 #[tactic(auto, unfolding(crate::specs::Change::last_way))]
 fn last_way(counts: &[u16; 512], u: NodeUnit) -> bool
     ensures { result ≡ last_way counts.now u.0 }
 {
-    counts[usize::from(u.0)] <= 1
+    counts[u.index()] <= 1
 }
 
 // One way to the node goes, and with the last way the node: the answer says whether it went.
@@ -107,7 +107,7 @@ pub fn drop_way(tree: &mut [u8; 6656], counts: &mut [u16; 512], u: NodeUnit) -> 
     if last {
         write_node(tree, u, Node::default());
     }
-    let at = usize::from(u.0);
+    let at = u.index();
     counts[at] = counts[at].saturating_sub(1);
     last
 }
@@ -118,7 +118,7 @@ pub fn add_node(tree: &mut [u8; 6656], counts: &mut [u16; 512], u: NodeUnit, n: 
     ensures counts { counts.new ≡ set counts.old u.0 1 }
 {
     write_node(tree, u, n);
-    counts[usize::from(u.0)] = 1;
+    counts[u.index()] = 1;
 }
 
 // ---- places
@@ -126,7 +126,7 @@ pub fn add_node(tree: &mut [u8; 6656], counts: &mut [u16; 512], u: NodeUnit, n: 
 pub fn places_of(counts: &[u16; 512], b: BranchRoot) -> u16
     ensures { result ≡ get_or counts.now (place_of b.0) 0 }
 {
-    counts[PLACES + usize::from(b.0)]
+    counts[PLACES + b.index()]
 }
 
 // The places from, from + 1, .. below `to`, of eight.
