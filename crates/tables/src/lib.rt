@@ -10,7 +10,7 @@ ghost use Rattle.tables.specs.Hold.{branch_in, slot_in, input_in, put_branch, pu
 ghost use Rattle.tables.specs.Hold.{coded_branch, coded_slot, coded_input, roots_of, in_use_in, slot_row};
 ghost use Rattle.tables.specs.Slots.{taken_slot, front, sealed_slot};
 
-use units::{BranchRoot, CompactorSlot, UnfinishedSlot};
+use units::{BranchRoot, CompactorSlot, SlotNumber, Unit, UnfinishedSlot};
 
 // The bytes of a row: a number and eight places, a slot's state besides.
 const LIST_ROW: usize = 9;
@@ -23,6 +23,7 @@ const SLOTS: usize = 2304;
 const INPUTS: usize = 2344;
 
 // A number beside the places, here and below, as the rows have them: fixed memory, and a row that is not right may name more than eight.
+// `branch_in`, `slot_in` and `input_in`, which the reads promise, keep the number beside the places.
 // A branch and an input are two types, though alike today: document 02 gives the input offsets.
 #[derive(Clone, Copy, Debug, Default, PartialEq, Eq)]
 pub struct Branch {
@@ -79,7 +80,7 @@ fn slot_row(x: Slot) -> [u8; SLOT_ROW]
 pub fn read_branch(hold: &[u8; 2380], b: BranchRoot) -> Branch
     ensures { result ≡ branch_in hold.now b.0 }
 {
-    let at = usize::from(b.0) * LIST_ROW;
+    let at = b.index() * LIST_ROW;
     Branch {
         number: hold[at],
         units: records::eight(hold, at + 1),
@@ -92,7 +93,7 @@ pub fn write_branch(hold: &mut [u8; 2380], b: BranchRoot, x: Branch)
 {
     records::pour(
         hold,
-        usize::from(b.0) * LIST_ROW,
+        b.index() * LIST_ROW,
         &list_row(x.number, x.units),
     );
 }
@@ -109,7 +110,7 @@ pub fn blank_branch(hold: &mut [u8; 2380], b: BranchRoot)
 pub fn read_slot(hold: &[u8; 2380], k: UnfinishedSlot) -> Slot
     ensures { result ≡ slot_in hold.now k.0 }
 {
-    if k.0 >= UnfinishedSlot::COUNT {
+    if !k.exists() {
         return Slot::default();
     }
     let at = SLOTS + usize::from(k.0) * SLOT_ROW;
@@ -124,7 +125,7 @@ pub fn read_slot(hold: &[u8; 2380], k: UnfinishedSlot) -> Slot
 pub fn write_slot(hold: &mut [u8; 2380], k: UnfinishedSlot, x: Slot)
     ensures { hold.new ≡ put_slot hold.old k.0 x }
 {
-    if k.0 < UnfinishedSlot::COUNT {
+    if k.exists() {
         records::pour(hold, SLOTS + usize::from(k.0) * SLOT_ROW, &slot_row(x));
     }
 }
@@ -174,7 +175,7 @@ pub fn sealed_to(x: Slot, n: u8) -> Slot
 pub fn read_input(hold: &[u8; 2380], k: CompactorSlot) -> Input
     ensures { result ≡ input_in hold.now k.0 }
 {
-    if k.0 >= CompactorSlot::COUNT {
+    if !k.exists() {
         return Input::default();
     }
     let at = INPUTS + usize::from(k.0) * LIST_ROW;
@@ -188,7 +189,7 @@ pub fn read_input(hold: &[u8; 2380], k: CompactorSlot) -> Input
 pub fn write_input(hold: &mut [u8; 2380], k: CompactorSlot, x: Input)
     ensures { hold.new ≡ put_input hold.old k.0 x }
 {
-    if k.0 < CompactorSlot::COUNT {
+    if k.exists() {
         records::pour(
             hold,
             INPUTS + usize::from(k.0) * LIST_ROW,
@@ -203,8 +204,8 @@ pub fn end_input(hold: &mut [u8; 2380], k: CompactorSlot)
     write_input(hold, k, Input::default());
 }
 
-// Whether u stands in the first `number` of the places; a number over 8 counts as 8. With a slice for the two, each caller would have to
-// write the bound `..usize::from(number).min(8)`.
+// Whether u stands in the first `number` of the places; a number over 8 counts as 8.
+// The places and their number come apart, as the rows have them (fixed memory).
 pub fn among(places: [u8; 8], number: u8, u: u8) -> bool
     ensures { result ≡ has u (take number places) }
 {
