@@ -57,8 +57,9 @@ pub fn read_node(tree: &[u8; 6656], u: NodeUnit) -> Node
     }
 }
 
+// The row of a node, which a record of it has too.
 #[tactic(auto, using(records::specs::Rows::eight_all))]
-fn bytes_of(n: Node) -> [u8; STRIDE]
+pub fn bytes_of(n: Node) -> [u8; STRIDE]
     ensures { result ≡ bytes_of n }
 {
     let mut row = [0; STRIDE];

@@ -10,7 +10,7 @@ ghost use Rattle.tables.specs.Hold.{branch_in, slot_in, input_in, put_branch, pu
 ghost use Rattle.tables.specs.Hold.{coded_branch, coded_slot, coded_input, roots_of, in_use_in, slot_row};
 ghost use Rattle.tables.specs.Slots.{taken_slot, front, sealed_slot};
 
-use units::{BranchRoot, CompactorSlot, SlotNumber, Unit, UnfinishedSlot};
+use units::{BranchRoot, CompactorSlot, SlotNumber, UnfinishedSlot, Unit};
 
 // The bytes of a row: a number and eight places, a slot's state besides.
 const LIST_ROW: usize = 9;
@@ -54,8 +54,8 @@ pub struct Input {
     pub roots: [u8; 8],
 }
 
-// The row of a branch or an input.
-fn list_row(number: u8, us: [u8; 8]) -> [u8; LIST_ROW]
+// The row of a branch or an input, and below of a slot; a record has the same bytes.
+pub fn list_row(number: u8, us: [u8; 8]) -> [u8; LIST_ROW]
     ensures { result ≡ number ∷ eight us }
 {
     let mut row = [0; LIST_ROW];
@@ -64,7 +64,7 @@ fn list_row(number: u8, us: [u8; 8]) -> [u8; LIST_ROW]
     row
 }
 
-fn slot_row(x: Slot) -> [u8; SLOT_ROW]
+pub fn slot_row(x: Slot) -> [u8; SLOT_ROW]
     ensures { result ≡ slot_row x }
 {
     let mut row = [0; SLOT_ROW];
@@ -91,11 +91,7 @@ pub fn read_branch(hold: &[u8; 2380], b: BranchRoot) -> Branch
 pub fn write_branch(hold: &mut [u8; 2380], b: BranchRoot, x: Branch)
     ensures { hold.new ≡ put_branch hold.old b.0 x }
 {
-    records::pour(
-        hold,
-        b.index() * LIST_ROW,
-        &list_row(x.number, x.units),
-    );
+    records::pour(hold, b.index() * LIST_ROW, &list_row(x.number, x.units));
 }
 
 pub fn blank_branch(hold: &mut [u8; 2380], b: BranchRoot)

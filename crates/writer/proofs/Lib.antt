@@ -1,4 +1,3 @@
-pub mod Filling
 pub mod Loops
 pub mod Fitting
 pub mod Theorems

@@ -40,20 +40,15 @@ fn put(out: &mut [u8], at: usize, bytes: &[u8]) -> usize
     }
 }
 
-// ---- one record
+// ---- one record: a row as the lent arrays have it, between its kind, its number and its count
 
-#[tactic(auto, using(crate::proofs::Filling::filled))]
 fn node_record(u: NodeUnit, n: Node, ways: u16) -> [u8; 30]
     ensures { result ≡ node_record u.0 n ways }
 {
     let mut bytes = [0; 30];
     bytes[0] = NODE;
     bytes[1] = u.0;
-    bytes[2] = n.buffer_number;
-    bytes[3..11].copy_from_slice(&n.buffers);
-    bytes[11] = n.child_number;
-    bytes[12..20].copy_from_slice(&n.children);
-    bytes[20..28].copy_from_slice(&n.offsets);
+    bytes[2..28].copy_from_slice(&counting::bytes_of(n));
     bytes[28..].copy_from_slice(&ways.to_le_bytes());
     bytes
 }
@@ -63,34 +58,28 @@ fn branch_record(x: Branch, places: u16) -> [u8; 12]
 {
     let mut bytes = [0; 12];
     bytes[0] = BRANCH;
-    bytes[1] = x.number;
-    bytes[2..10].copy_from_slice(&x.units);
+    bytes[1..10].copy_from_slice(&tables::list_row(x.number, x.units));
     bytes[10..].copy_from_slice(&places.to_le_bytes());
     bytes
 }
 
-#[tactic(auto, using(crate::proofs::Filling::filled))]
 fn slot_record(k: UnfinishedSlot, x: Slot) -> [u8; 12]
     ensures { result ≡ slot_record k.0 x }
 {
     let mut bytes = [0; 12];
     bytes[0] = SLOT;
     bytes[1] = k.0;
-    bytes[2] = x.state;
-    bytes[3] = x.number;
-    bytes[4..].copy_from_slice(&x.units);
+    bytes[2..].copy_from_slice(&tables::slot_row(x));
     bytes
 }
 
-#[tactic(auto, using(crate::proofs::Filling::filled))]
 fn input_record(k: CompactorSlot, x: Input) -> [u8; 11]
     ensures { result ≡ input_record k.0 x }
 {
     let mut bytes = [0; 11];
     bytes[0] = INPUT;
     bytes[1] = k.0;
-    bytes[2] = x.number;
-    bytes[3..].copy_from_slice(&x.roots);
+    bytes[2..].copy_from_slice(&tables::list_row(x.number, x.roots));
     bytes
 }
 
