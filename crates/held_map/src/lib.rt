@@ -6,6 +6,7 @@ ghost use Rattle.held_map.specs.Bits.{Less, LowestZero};
 ghost use Rattle.held_map.specs.Map.{held_in, mark, clear, clears, held_number, lowest_free, gone};
 ghost use Rattle.held_map.specs.Lists.{bits_of, four_of, inserted};
 
+#[tactic(auto, using(crate::proofs::Bits::set_test), unfolding(crate::specs::Map::held_in))]
 pub fn has(map: &[u64; 4], u: u8) -> bool
     ensures { result ≡ held_in map.now u }
 {
@@ -13,6 +14,7 @@ pub fn has(map: &[u64; 4], u: u8) -> bool
 }
 
 // The unit is held afterwards, whether it was or not.
+#[tactic(auto, using(crate::proofs::Bits::with_or), unfolding(crate::specs::Map::mark))]
 pub fn hold(map: &mut [u64; 4], u: u8)
     ensures { map.new ≡ mark map.old u }
 {
@@ -20,6 +22,7 @@ pub fn hold(map: &mut [u64; 4], u: u8)
 }
 
 // The unit is not held afterwards, whether it was or not.
+#[tactic(auto, using(crate::proofs::Bits::without_and), unfolding(crate::specs::Map::clear))]
 pub fn release(map: &mut [u64; 4], u: u8)
     ensures { map.new ≡ clear map.old u }
 {
@@ -43,6 +46,7 @@ pub fn number(map: &[u64; 4]) -> u32
 }
 
 // The lowest bit of w that is 0, or 64.
+#[tactic(auto, using(crate::proofs::Lowest::lowest_zero))]
 fn lowest_zero(w: u64) -> u8
     ensures { LowestZero w result }
 {
@@ -105,6 +109,7 @@ impl Iterator for Units {
 }
 
 // The set bits of a word, from `at` on.
+#[tactic(auto, unfolding(crate::specs::Lists::inserted))]
 fn list_word(word: u64, base: u8, out: &mut [u8], at: usize) -> usize
     requires { (base ≤ 192) × (at + length (bits_of 64 base word) ≤ length out.old) }
     ensures list { out.new ≡ inserted out.old at (bits_of 64 base word) }
@@ -131,6 +136,7 @@ fn list_four(words: [u64; 4], out: &mut [u8]) -> usize
 }
 
 // The bits of a that b has not.
+#[tactic(auto, using(crate::proofs::Bits::less_set))]
 fn less(a: u64, b: u64) -> u64
     ensures { Less a b result }
 {
