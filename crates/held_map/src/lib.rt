@@ -85,6 +85,21 @@ impl Units {
     {
         Units { word, base }
     }
+
+    // Those that are left, stored from `at` on.
+    #[tactic(auto, unfolding(crate::specs::Lists::inserted))]
+    fn list(self, out: &mut [u8], at: usize) -> usize
+        requires { at + length (left self) ≤ length out.old }
+        ensures list { out.new ≡ inserted out.old at (left self) }
+        ensures next { result ≡ at + length (left self) }
+    {
+        let mut n = at;
+        for u in self {
+            out[n] = u;
+            n += 1;
+        }
+        n
+    }
 }
 
 // A turn for each set bit and none for the others.
@@ -108,21 +123,6 @@ impl Iterator for Units {
     }
 }
 
-// The set bits of a word, from `at` on.
-#[tactic(auto, unfolding(crate::specs::Lists::inserted))]
-fn list_word(word: u64, base: u8, out: &mut [u8], at: usize) -> usize
-    requires { (base ≤ 192) × (at + length (bits_of 64 base word) ≤ length out.old) }
-    ensures list { out.new ≡ inserted out.old at (bits_of 64 base word) }
-    ensures next { result ≡ at + length (bits_of 64 base word) }
-{
-    let mut n = at;
-    for u in Units::of(word, base) {
-        out[n] = u;
-        n += 1;
-    }
-    n
-}
-
 fn list_four(words: [u64; 4], out: &mut [u8]) -> usize
     requires { length (four_of words) ≤ length out.old }
     ensures list { out.new ≡ inserted out.old 0 (four_of words) }
@@ -130,7 +130,7 @@ fn list_four(words: [u64; 4], out: &mut [u8]) -> usize
 {
     let mut n = 0;
     for (i, &word) in words.iter().enumerate() {
-        n = list_word(word, i as u8 * 64, out, n);
+        n = Units::of(word, i as u8 * 64).list(out, n);
     }
     n
 }
