@@ -149,9 +149,7 @@ pub fn list_gone(before: &[u64; 4], after: &[u64; 4], out: &mut [u8]) -> usize
     ensures list { out.new ≡ gone before.now after.now ++ drop (length (gone before.now after.now)) out.old }
     ensures next { result ≡ length (gone before.now after.now) }
 {
-    let d0 = less(before[0], after[0]);
-    let d1 = less(before[1], after[1]);
-    let d2 = less(before[2], after[2]);
-    let d3 = less(before[3], after[3]);
-    list_four([d0 - d0 % 2, d1, d2, d3], out)
+    let mut words: [u64; 4] = std::array::from_fn(|i| less(before[i], after[i]));
+    words[0] -= words[0] % 2;
+    list_four(words, out)
 }
