@@ -138,13 +138,17 @@ module _ (g : ℕ → Bool) (d : List ℕ) (t1 : Told g 64 64 (get_or d 1 0)) (t
 pub less_told : (a b : List ℕ) (q r : ℕ) → Less (get_or a q 0) (get_or b q 0) r → Told (λ u. held_in a u && not (held_in b u)) 64 (q * 64) r
 less_told a b q r l i h = ap₂ (λ (x y : Bool). x && not y) (held_word a q i h) (held_word b q i h) ∙ sym (l.bits i h)
 
-pub gone_four : (a b : List ℕ) (d0 d1 d2 d3 : ℕ) → Less (get_or a 0 0) (get_or b 0 0) d0 → Less (get_or a 1 0) (get_or b 1 0) d1
-    → Less (get_or a 2 0) (get_or b 2 0) d2 → Less (get_or a 3 0) (get_or b 3 0) d3
-    → four_of ((d0 - d0 % 2) ∷ d1 ∷ d2 ∷ d3 ∷ []) ≡ gone a b
+-- the words of the one map without those of the other
+abbrev pub AllLess : List ℕ → List ℕ → List ℕ → Type 0
+AllLess a b d = (i : ℕ) → i < 4 → Less (get_or a i 0) (get_or b i 0) (get_or d i 0)
+
+pub gone_four : (a b d : List ℕ) → length d ≡ 4 → AllLess a b d → four_of (set d 0 (get_or d 0 0 - get_or d 0 0 % 2)) ≡ gone a b
 unfolding gone
-gone_four a b d0 d1 d2 d3 l0 l1 l2 l3 =
-    units_sift (λ u. held_in a u && not (held_in b u)) ((d0 - d0 % 2) ∷ d1 ∷ d2 ∷ d3 ∷ [])
-    (less_told a b 1 d1 l1) (less_told a b 2 d2 l2) (less_told a b 3 d3 l3) d0 refl (less_told a b 0 d0 l0)
+gone_four a b [] e l = absurd (omega arith)
+gone_four a b (w ∷ ws) e l =
+    units_sift (λ u. held_in a u && not (held_in b u)) ((w - w % 2) ∷ ws)
+    (less_told a b 1 _ (l 1 (omega arith))) (less_told a b 2 _ (l 2 (omega arith))) (less_told a b 3 _ (l 3 (omega arith))) w refl
+    (less_told a b 0 w (l 0 (omega arith)))
 
 pub gone_le : (a b : List ℕ) → length (gone a b) ≤ 255
 unfolding gone units

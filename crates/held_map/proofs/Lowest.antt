@@ -133,13 +133,6 @@ held_from_1 m u h = go (u / 64) refl
 abbrev pub Ones : List ℕ → ℕ → Type 0
 Ones m q = (i j : ℕ) → i < q → j < 64 → bit (word_from1 m i) j ≡ 1
 
-pub ones_more : (m : List ℕ) (q : ℕ) {z : ℕ} → Ones m q → LowestZero (word_from1 m q) z → 64 ≤ z → Ones m (suc q)
-ones_more m q o f h i j p l =
-    ⊎_elim
-    (λ (e : i ≡ q). rw e (f.ones j (omega arith)))
-    (λ (k : i < q). o i j k l)
-    (eq-or-lt_of_le (omega arith))
-
 -- as code reads it
 pub first_word : (m : List ℕ) (q w : ℕ) → q ≡ 0 → w ≡ bit_or (get_or m q 0) 1 → w ≡ word_from1 m q
 first_word m q w z e = rw z (e ∙ ap (λ (k : ℕ). bit_or (get_or m k 0) 1) z)
@@ -147,9 +140,6 @@ first_word m q w z e = rw z (e ∙ ap (λ (k : ℕ). bit_or (get_or m k 0) 1) z)
 pub other_word : (m : List ℕ) (q w : ℕ) → (q ≡ 0 → ⊥) → w ≡ get_or m q 0 → w ≡ word_from1 m q
 other_word m zero w d e = absurd (d refl)
 other_word m (suc q) w d e = e
-
-pub ones_none : (m : List ℕ) → Ones m 0
-ones_none m i j p l = absurd (omega arith)
 
 ones_held : (m : List ℕ) (q v : ℕ) → Ones m q → 1 ≤ v → v < q * 64 → held_in m v ≡ true
 ones_held m q v o h l = held_from_1 m v h ∙ eq-eqb _ 1 (o (v / 64) (v % 64) (omega arith) (omega arith))

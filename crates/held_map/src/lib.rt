@@ -6,6 +6,7 @@ ghost use Rattle.held_map.specs.Bits.{Less, LowestZero};
 ghost use Rattle.held_map.specs.Map.{held_in, mark, clear, clears, held_number, lowest_free, gone};
 ghost use Rattle.held_map.specs.Lists.{bits_of, four_of, inserted};
 
+#[tactic(auto, using(crate::proofs::Bits::set_test), unfolding(crate::specs::Map::held_in))]
 pub fn has(map: &[u64; 4], u: u8) -> bool
     ensures { result ≡ held_in map.now u }
 {
@@ -13,6 +14,7 @@ pub fn has(map: &[u64; 4], u: u8) -> bool
 }
 
 // The unit is held afterwards, whether it was or not.
+#[tactic(auto, using(crate::proofs::Bits::with_or), unfolding(crate::specs::Map::mark))]
 pub fn hold(map: &mut [u64; 4], u: u8)
     ensures { map.new ≡ mark map.old u }
 {
@@ -20,6 +22,7 @@ pub fn hold(map: &mut [u64; 4], u: u8)
 }
 
 // The unit is not held afterwards, whether it was or not.
+#[tactic(auto, using(crate::proofs::Bits::without_and), unfolding(crate::specs::Map::clear))]
 pub fn release(map: &mut [u64; 4], u: u8)
     ensures { map.new ≡ clear map.old u }
 {
@@ -43,6 +46,7 @@ pub fn number(map: &[u64; 4]) -> u32
 }
 
 // The lowest bit of w that is 0, or 64.
+#[tactic(auto, using(crate::proofs::Lowest::lowest_zero))]
 fn lowest_zero(w: u64) -> u8
     ensures { LowestZero w result }
 {
@@ -81,6 +85,21 @@ impl Units {
     {
         Units { word, base }
     }
+
+    // Those that are left, stored from `at` on.
+    #[tactic(auto, unfolding(crate::specs::Lists::inserted))]
+    fn list(self, out: &mut [u8], at: usize) -> usize
+        requires { at + length (left self) ≤ length out.old }
+        ensures list { out.new ≡ inserted out.old at (left self) }
+        ensures next { result ≡ at + length (left self) }
+    {
+        let mut n = at;
+        for u in self {
+            out[n] = u;
+            n += 1;
+        }
+        n
+    }
 }
 
 // A turn for each set bit and none for the others.
@@ -104,20 +123,6 @@ impl Iterator for Units {
     }
 }
 
-// The set bits of a word, from `at` on.
-fn list_word(word: u64, base: u8, out: &mut [u8], at: usize) -> usize
-    requires { (base ≤ 192) × (at + length (bits_of 64 base word) ≤ length out.old) }
-    ensures list { out.new ≡ inserted out.old at (bits_of 64 base word) }
-    ensures next { result ≡ at + length (bits_of 64 base word) }
-{
-    let mut n = at;
-    for u in Units::of(word, base) {
-        out[n] = u;
-        n += 1;
-    }
-    n
-}
-
 fn list_four(words: [u64; 4], out: &mut [u8]) -> usize
     requires { length (four_of words) ≤ length out.old }
     ensures list { out.new ≡ inserted out.old 0 (four_of words) }
@@ -125,12 +130,13 @@ fn list_four(words: [u64; 4], out: &mut [u8]) -> usize
 {
     let mut n = 0;
     for (i, &word) in words.iter().enumerate() {
-        n = list_word(word, i as u8 * 64, out, n);
+        n = Units::of(word, i as u8 * 64).list(out, n);
     }
     n
 }
 
 // The bits of a that b has not.
+#[tactic(auto, using(crate::proofs::Bits::less_set))]
 fn less(a: u64, b: u64) -> u64
     ensures { Less a b result }
 {
@@ -143,9 +149,7 @@ pub fn list_gone(before: &[u64; 4], after: &[u64; 4], out: &mut [u8]) -> usize
     ensures list { out.new ≡ gone before.now after.now ++ drop (length (gone before.now after.now)) out.old }
     ensures next { result ≡ length (gone before.now after.now) }
 {
-    let d0 = less(before[0], after[0]);
-    let d1 = less(before[1], after[1]);
-    let d2 = less(before[2], after[2]);
-    let d3 = less(before[3], after[3]);
-    list_four([d0 - d0 % 2, d1, d2, d3], out)
+    let mut words: [u64; 4] = std::array::from_fn(|i| less(before[i], after[i]));
+    words[0] -= words[0] % 2;
+    list_four(words, out)
 }

@@ -5,7 +5,7 @@
 ghost use Rattle.std.specs.Prelude.{◌≤◌, ◌-◌, ◌≡◌, not, eqb, get_or};
 ghost use Rattle.ways.specs.Ways.{sums, deep, flat};
 ghost use Rattle.rules.specs.Store.{root_list};
-ghost use Rattle.held_map.specs.Lists.{bits_of};
+ghost use Rattle.held_map.specs.Left.{left};
 ghost use Rattle.counting.specs.Graph.{children_in};
 ghost use Rattle.levels.specs.Sets.{marks, below_in};
 
@@ -22,12 +22,11 @@ fn mark_children(tree: &[u8; 6656], u: NodeUnit, below: &mut [u64; 4])
     }
 }
 
-// Those of each unit that is a set bit of a word.
-fn mark_word(tree: &[u8; 6656], word: u64, base: u8, below: &mut [u64; 4])
-    requires { base ≤ 192 }
-    ensures { below.new ≡ marks below.old (flat (children_in tree.now) (bits_of 64 base word)) }
+// Those of each unit that the iterator has left.
+fn mark_word(tree: &[u8; 6656], units: Units, below: &mut [u64; 4])
+    ensures { below.new ≡ marks below.old (flat (children_in tree.now) (left units)) }
 {
-    for u in Units::of(word, base) {
+    for u in units {
         mark_children(tree, NodeUnit(u), below);
     }
 }
@@ -37,7 +36,7 @@ pub fn level_below(tree: &[u8; 6656], level: &[u64; 4], below: &mut [u64; 4])
     ensures { below.new ≡ below_in tree.now level.now below.old }
 {
     for (i, &word) in level.iter().enumerate() {
-        mark_word(tree, word, i as u8 * 64, below);
+        mark_word(tree, Units::of(word, i as u8 * 64), below);
     }
 }
 

@@ -5,11 +5,11 @@ use Rattle.held_map.proofs.list_four.Goals as goal
 pub loop-i-init : goal.loop-i-init
 loop-i-init c = record { list = refl; next = refl }
 
-pub list_word-n-requires : goal.list_word-n-requires
-list_word-n-requires c = (omega arith, omega (arith, c.loop-i.invariant.next, four_room c.args.words c.loop-i.i c.loop-i-test.true))
+pub list-n-requires : goal.list-n-requires
+list-n-requires c = rw c.of.ensures (omega (arith, c.loop-i.invariant.next, four_room c.args.words c.loop-i.i c.loop-i-test.true))
 
 pub loop-i-preserved : goal.loop-i-preserved
-loop-i-preserved c = four_turn c.loop-i.invariant c.list_word-n.ensures.list c.list_word-n.ensures.next
+loop-i-preserved c = four_turn c.loop-i.invariant (rw c.of.ensures at c.list-n.ensures.list) (rw c.of.ensures at c.list-n.ensures.next)
 
 pub returns : goal.returns
 returns c =

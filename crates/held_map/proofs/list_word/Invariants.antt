@@ -1,9 +1,0 @@
--- What the iterator has left, listed from here, gives what was asked.
-use Rattle.held_map.specs.Left.{left}
-use Rattle.held_map.specs.Lists.{bits_of}
-use Rattle.held_map.proofs.Lists.{ListLoop}
-use Rattle.held_map.proofs.list_word.Given as goal
-
-abbrev pub invariant-loop-u : goal.invariant-loop-u
-invariant-loop-u l =
-    (goal.iterator-loop-u).can_next l.u-iterator × (goal.iterator-loop-u).is_finite l.u-iterator × ListLoop l.fn.out l.at (bits_of 64 l.base l.word) l.out l.n (left l.u-iterator)
