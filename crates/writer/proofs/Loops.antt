@@ -1,6 +1,6 @@
 -- Putting one record, the loop over the records of a kind, and one kind after another. Assumes nothing.
-use Rattle.std.specs.Prelude.{Bool, true, false, cond, ◌≡◌, refl, List, [], ◌∷◌, ◌++◌, map, ℕ, ◌+◌, ◌-◌, ◌≤◌, ◌<◌, leb, length, get_or, Option, Some, None, Ok}
-use Rattle.std.proofs.Common.{ap, sym, ◌∙◌, add-zero, arith, eq-eqb, ne_eqb, le-leb, le-ltb}
+use Rattle.std.specs.Prelude.{Bool, true, false, cond, ◌≡◌, refl, List, [], ◌∷◌, ◌++◌, map, ℕ, zero, suc, ◌+◌, ◌-◌, ◌≤◌, ◌<◌, leb, length, get_or, Option, Some, None, Ok}
+use Rattle.std.proofs.Common.{ap, sym, ◌∙◌, add-zero, add-one, arith, eq-eqb, ne_eqb, le-leb, le-ltb}
 use Rattle.std.proofs.lemmas.Bool.{lt-leb}
 use Rattle.std.proofs.lemmas.Slice.{put_mid-paste}
 use Rattle.std.specs.Iterator.{AlwaysYields}
@@ -92,6 +92,11 @@ pub records_wrote : {S F : Type 0} {steps : S → Option ℕ → S → Type 0} {
     → ((x : ℕ) (r : Option (List ℕ)) (q : F) → Called g callee (x, tt) r q → (q ≡ callee) × (r ≡ some_record (f x)))
     → (o last : Place) → ((all : List (List ℕ)) → AlwaysYields (filter_map_steps steps g) (λ y. y) s all → last ≡ wrote o all) → last ≡ wrote o (map f ks)
 records_wrote g f y e h o last w = w _ (YieldsList-from_filter_map g (λ k. some_record (f k)) y e h).runs ∙ none_skipped f _ o
+
+-- numbers counted from 0, each one up
+pub map_next : (f : ℕ → List ℕ) (n a : ℕ) → map (λ k. f (k + 1)) (range n a) ≡ map f (range n (suc a))
+map_next f zero a = refl
+map_next f (suc n) a = rw add-one (ap (λ (l : List (List ℕ)). f (suc a) ∷ l) (map_next f n (suc a)))
 
 -- ---- one kind after another
 

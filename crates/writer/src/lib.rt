@@ -31,13 +31,12 @@ const WANTED: usize = 8192;
 fn put(out: &mut [u8], at: usize, bytes: &[u8]) -> usize
     ensures { (out.new, result) ≡ put_in (out.old, at) bytes.now }
 {
-    match at.checked_add(bytes.len()) {
-        Some(end) if end <= out.len() => {
-            out[at..end].copy_from_slice(bytes);
-            end
-        }
-        _ => at,
+    let n = bytes.len();
+    if out.len() < n || out.len() - n < at {
+        return at;
     }
+    out[at..at + n].copy_from_slice(bytes);
+    at + n
 }
 
 // ---- one record: a row as the lent arrays have it, between its kind, its number and its count
@@ -162,8 +161,9 @@ pub fn write(
     if out.len() < WANTED {
         return Err(Refusal::ShortOutput);
     }
-    let nodes = (1..=NodeUnit::LAST).filter_map(|u| node_of(tree, counts, NodeUnit(u)));
-    let branches = (1..=BranchRoot::LAST).filter_map(|b| branch_of(counts, hold, BranchRoot(b)));
+    // From 0 and one up: a chain over `1..=LAST` asks at every number whether it is through, and took half as long again.
+    let nodes = (0..NodeUnit::LAST).filter_map(|u| node_of(tree, counts, NodeUnit(u + 1)));
+    let branches = (0..BranchRoot::LAST).filter_map(|b| branch_of(counts, hold, BranchRoot(b + 1)));
     let slots = (0..UnfinishedSlot::COUNT).filter_map(|k| slot_of(hold, UnfinishedSlot(k)));
     let inputs = (0..CompactorSlot::COUNT).filter_map(|k| input_of(hold, CompactorSlot(k)));
     let end = put(out, 0, &[ROOT, counting::root(tree).0]);
