@@ -58,6 +58,10 @@ node_read_lem l u n r =
     rw (e0, e1, r 9 (omega arith), e2, e3)
 
 -- a node that code writes is poured, but at unit 0
+pub put_node_none : (l : List ℕ) (u : ℕ) (n : Node) → u ≡ 0 → put_node l u n ≡ l
+unfolding put_node
+put_node_none l u n e = rw e
+
 pub put_node_some : (l : List ℕ) (u : ℕ) (n : Node) → (u ≡ 0 → ⊥) → put_node l u n ≡ poured l (u * stride) (bytes_of n)
 unfolding put_node
 put_node_some l u n d = rw (ne_eqb u 0 d)
