@@ -23,7 +23,7 @@ pub fn flush_tests(
     let n = ends.node;
     let buffers = n.buffers;
     let units = [body[17], body[18]];
-    let shape = bodies::path_shape(body) && pathed::is_index(c);
+    let shape = bodies::path_shape(body[0], &body[1..8], &body[8..15]) && pathed::is_index(c);
     let leads = ends.leads_to;
     let range = shapes::gc_fits(n, c, gc);
     let small = shapes::flush_room(n, ends.below, c);

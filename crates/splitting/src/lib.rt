@@ -23,7 +23,7 @@ pub fn split_tests(
     let m = ends.below;
     let buffers = m.buffers;
     let units = [body[17], body[18], body[19]];
-    let shape = bodies::path_shape(body) && pathed::is_index(c);
+    let shape = bodies::path_shape(body[0], &body[1..8], &body[8..15]) && pathed::is_index(c);
     let leads = ends.leads_to;
     let range = shapes::split_share_fits(m, body[16]);
     let small = shapes::room_for_child(n);
