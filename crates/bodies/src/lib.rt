@@ -22,10 +22,11 @@ pub fn is_blank(us: &[u8]) -> bool
 }
 
 // How many of the seven indexes a depth uses.
+#[tactic(auto, unfolding(crate::specs::Bodies::used_of))]
 pub fn used(d: u8) -> usize
     ensures { (result ≤ indexes) × (result ≡ used_of d) }
 {
-    (d as usize).min(7)
+    usize::from(d).min(7)
 }
 
 // Line 4 of a depth and its indexes: used ones are indexes, the others 0.
@@ -33,7 +34,7 @@ pub fn index_shape(d: u8, is: &[u8]) -> bool
     requires { length is.now ≡ indexes }
     ensures { result ≡ path_shape d is.now [] }
 {
-    let k = d as usize;
+    let k = usize::from(d);
     k <= 7 && are_indexes(&is[..k]) && is_blank(&is[k..])
 }
 
@@ -68,6 +69,7 @@ pub fn path_of(body: &[u8]) -> Path<'_>
 }
 
 // The node at the end of a path from the root; none where the path leads nowhere or the tree is empty.
+#[tactic(auto, unfolding(crate::specs::Bodies::target_in))]
 pub fn target(tree: &[u8; 6656], path: &[u8]) -> Option<NodeUnit>
     ensures { result ≡ target_in tree.now path.now }
 {

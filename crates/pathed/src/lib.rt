@@ -70,6 +70,7 @@ pub struct Copied {
 }
 
 // The nodes on the path are copied, the last copy naming f; the units of the copies and the new ones come to be held.
+#[tactic(auto, unfolding(crate::specs::Pathed::copy_tree, crate::specs::Pathed::spine_in))]
 pub fn copy(
     tree: &mut [u8; 6656],
     counts: &mut [u16; 512],
