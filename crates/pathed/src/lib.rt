@@ -37,7 +37,7 @@ pub fn ends_of(tree: &[u8; 6656], path: &[u8], c: u8) -> Ends
     ensures { result ≡ ends_in tree.now path.now c }
 {
     let target = bodies::target(tree, path);
-    let node = counting::read_node(tree, target.unwrap_or(NodeUnit(NodeUnit::NONE)));
+    let node = counting::read_node(tree, target.unwrap_or_default());
     let leads_to = target.is_some() && path::has_child(node, c);
     let child = path::child_at(node, c);
     let below = counting::read_node(tree, child);
