@@ -53,7 +53,7 @@ pub fn split(tree: &mut [u8; 6656], counts: &mut [u16; 512], map: &mut [u64; 4],
     counting::add_node(tree, counts, f, shapes::split_parent(n, c, l, r));
     counting::add_node(tree, counts, l, shapes::left_of(m, a));
     counting::add_node(tree, counts, r, shapes::right_of(m, a));
-    let target = ends.target.unwrap_or(NodeUnit(NodeUnit::NONE));
+    let target = ends.target.unwrap_or_default();
     pathed::leave(tree, counts, map, copied, target, ends.child);
     counting::add_places(counts, counting::part(&m.buffers, 0, m.buffer_number));
 }
