@@ -61,7 +61,7 @@ pub fn flush(
     let copied = pathed::copy(tree, counts, map, path, &units, f);
     counting::add_node(tree, counts, f, shapes::flush_parent(n, c, gc, g));
     counting::add_node(tree, counts, g, shapes::flush_child(n, ends.below, c));
-    let target = ends.target.unwrap_or(NodeUnit(NodeUnit::NONE));
+    let target = ends.target.unwrap_or_default();
     pathed::leave(tree, counts, map, copied, target, ends.child);
     counting::drop_places(counts, counting::part(&buffers, 0, gc));
     counting::add_places(counts, counting::part(&buffers, offset, n.buffer_number));
