@@ -1,10 +1,8 @@
--- The test of every member, the shape of a path, and the node that it leads to where a sound store stands. Assumes nothing.
-use Rattle.std.specs.Prelude.{None, IsTrue, ◌↔◌}
-use Rattle.std.specs.List.{list_all, AllPass}
-use Rattle.std.proofs.lemmas.List.Sums.{AllPass-from_list_all, list_all-from_AllPass}
+-- The shape of a path, and the node that it leads to where a sound store stands. Assumes nothing.
+use Rattle.std.specs.Prelude.{None}
 use mathlib.Core.Path.{◌≡◌, refl, sym, ap, ◌∙◌}
 use mathlib.Core.Bool.{Bool, true, false, ◌&&◌, not, cond}
-use mathlib.Core.List.{List, [], ◌∷◌}
+use mathlib.Core.List.{List, []}
 use Prim.Native.Nat.{ℕ, zero, suc, ◌-◌, ◌≤◌}
 use native.Mathlib.Omega.{arith}
 use lib.Dec.{eqb, leb}
@@ -23,22 +21,6 @@ use Rattle.path.specs.Graph.{found, found_in}
 use Rattle.path.specs.Standing.{TreeIs}
 use Rattle.path.proofs.Paths.{follow_is}
 use Rattle.bodies.specs.Bodies.{used_of, target_in}
-
--- ---- the test of every member
-
--- the library's test is that of the rules
-module _ {A : Type 0} (f : A → Bool) where
-  all_is : (l : List A) → list_all f l ≡ all f l
-  all_is [] = refl
-  all_is (x ∷ l) = ap (λ (b : Bool). f x && b) (all_is l)
-
-  pub all_tells : (l : List A) (b : Bool) → IsTrue b ↔ AllPass f l → b ≡ all f l
-  all_tells l b e = same b (all f l) (λ h. sym (all_is l) ∙ list_all-from_AllPass f l (e.0 h)) (λ h. e.1 (AllPass-from_list_all f l (all_is l ∙ h)))
-    where
-      same : (a c : Bool) → (a ≡ true → c ≡ true) → (c ≡ true → a ≡ true) → a ≡ c
-      same true c h k = sym (h refl)
-      same false true h k = k refl
-      same false false h k = refl
 
 -- ---- the shape of a path
 

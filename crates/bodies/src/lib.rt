@@ -3,7 +3,7 @@
 
 ghost use Rattle.std.specs.Prelude.{◌≡◌, [], ◌≤◌, length, get_or};
 ghost use Rattle.units.specs.Bodies.{indexes};
-ghost use Rattle.rules.specs.Tables.{all, zeros, slice};
+ghost use Rattle.rules.specs.Tables.{all, zeros};
 ghost use Rattle.rules.specs.Steps.{is_index, path_shape};
 ghost use Rattle.bodies.specs.Bodies.{used_of, used_part, target_in};
 
@@ -22,10 +22,11 @@ pub fn is_blank(us: &[u8]) -> bool
 }
 
 // How many of the seven indexes a depth uses.
+#[tactic(auto, unfolding(crate::specs::Bodies::used_of))]
 pub fn used(d: u8) -> usize
     ensures { (result ≤ indexes) × (result ≡ used_of d) }
 {
-    (d as usize).min(7)
+    usize::from(d).min(7)
 }
 
 // Line 4 of a depth and its indexes: used ones are indexes, the others 0.
@@ -33,8 +34,17 @@ pub fn index_shape(d: u8, is: &[u8]) -> bool
     requires { length is.now ≡ indexes }
     ensures { result ≡ path_shape d is.now [] }
 {
-    let k = d as usize;
+    let k = usize::from(d);
     k <= 7 && are_indexes(&is[..k]) && is_blank(&is[k..])
+}
+
+// The same with the fresh units, of which the unused ones are 0.
+#[tactic(auto, using(crate::proofs::Bodies::shape_yes))]
+pub fn path_shape(d: u8, is: &[u8], fs: &[u8]) -> bool
+    requires { (length is.now ≡ indexes) × (length fs.now ≡ indexes) }
+    ensures { result ≡ path_shape d is.now fs.now }
+{
+    index_shape(d, is) && is_blank(&fs[used(d)..])
 }
 
 // Of a body that begins with a depth, seven indexes and seven fresh units: those of both that the depth uses.
@@ -58,18 +68,8 @@ pub fn path_of(body: &[u8]) -> Path<'_>
     }
 }
 
-// Line 4 of such a body: the unused fresh units are 0, too.
-pub fn path_shape(body: &[u8]) -> bool
-    requires { 15 ≤ length body.now }
-    ensures { result
-        ≡ path_shape (get_or body.now 0 0) (slice 1 indexes body.now) (slice 8 indexes body.now) }
-{
-    let d = body[0];
-    let fresh = &body[8..15];
-    index_shape(d, &body[1..8]) && is_blank(&fresh[used(d)..])
-}
-
 // The node at the end of a path from the root; none where the path leads nowhere or the tree is empty.
+#[tactic(auto, unfolding(crate::specs::Bodies::target_in))]
 pub fn target(tree: &[u8; 6656], path: &[u8]) -> Option<NodeUnit>
     ensures { result ≡ target_in tree.now path.now }
 {

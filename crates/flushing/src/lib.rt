@@ -23,7 +23,7 @@ pub fn flush_tests(
     let n = ends.node;
     let buffers = n.buffers;
     let units = [body[17], body[18]];
-    let shape = bodies::path_shape(body) && pathed::is_index(c);
+    let shape = bodies::path_shape(body[0], &body[1..8], &body[8..15]) && pathed::is_index(c);
     let leads = ends.leads_to;
     let range = shapes::gc_fits(n, c, gc);
     let small = shapes::flush_room(n, ends.below, c);
@@ -61,7 +61,7 @@ pub fn flush(
     let copied = pathed::copy(tree, counts, map, path, &units, f);
     counting::add_node(tree, counts, f, shapes::flush_parent(n, c, gc, g));
     counting::add_node(tree, counts, g, shapes::flush_child(n, ends.below, c));
-    let target = ends.target.unwrap_or(NodeUnit(NodeUnit::NONE));
+    let target = ends.target.unwrap_or_default();
     pathed::leave(tree, counts, map, copied, target, ends.child);
     counting::drop_places(counts, counting::part(&buffers, 0, gc));
     counting::add_places(counts, counting::part(&buffers, offset, n.buffer_number));

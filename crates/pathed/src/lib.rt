@@ -37,7 +37,7 @@ pub fn ends_of(tree: &[u8; 6656], path: &[u8], c: u8) -> Ends
     ensures { result ≡ ends_in tree.now path.now c }
 {
     let target = bodies::target(tree, path);
-    let node = counting::read_node(tree, target.unwrap_or(NodeUnit(NodeUnit::NONE)));
+    let node = counting::read_node(tree, target.unwrap_or_default());
     let leads_to = target.is_some() && path::has_child(node, c);
     let child = path::child_at(node, c);
     let below = counting::read_node(tree, child);
@@ -70,6 +70,7 @@ pub struct Copied {
 }
 
 // The nodes on the path are copied, the last copy naming f; the units of the copies and the new ones come to be held.
+#[tactic(auto, unfolding(crate::specs::Pathed::copy_tree, crate::specs::Pathed::spine_in))]
 pub fn copy(
     tree: &mut [u8; 6656],
     counts: &mut [u16; 512],

@@ -155,7 +155,7 @@ fn begin_target(tree: &[u8; 6656], body: &[u8; 11]) -> Option<NodeUnit>
 fn found_node(tree: &[u8; 6656], found: Option<NodeUnit>) -> Node
     ensures { result ≡ node_in tree.now (unit_of found) }
 {
-    counting::read_node(tree, found.unwrap_or(NodeUnit(NodeUnit::NONE)))
+    counting::read_node(tree, found.unwrap_or_default())
 }
 
 #[tactic(auto, unfolding(crate::specs::Inputs::begin_shape))]

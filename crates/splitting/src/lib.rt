@@ -23,7 +23,7 @@ pub fn split_tests(
     let m = ends.below;
     let buffers = m.buffers;
     let units = [body[17], body[18], body[19]];
-    let shape = bodies::path_shape(body) && pathed::is_index(c);
+    let shape = bodies::path_shape(body[0], &body[1..8], &body[8..15]) && pathed::is_index(c);
     let leads = ends.leads_to;
     let range = shapes::split_share_fits(m, body[16]);
     let small = shapes::room_for_child(n);
@@ -53,7 +53,7 @@ pub fn split(tree: &mut [u8; 6656], counts: &mut [u16; 512], map: &mut [u64; 4],
     counting::add_node(tree, counts, f, shapes::split_parent(n, c, l, r));
     counting::add_node(tree, counts, l, shapes::left_of(m, a));
     counting::add_node(tree, counts, r, shapes::right_of(m, a));
-    let target = ends.target.unwrap_or(NodeUnit(NodeUnit::NONE));
+    let target = ends.target.unwrap_or_default();
     pathed::leave(tree, counts, map, copied, target, ends.child);
     counting::add_places(counts, counting::part(&m.buffers, 0, m.buffer_number));
 }

@@ -34,7 +34,7 @@ pub trait Unit: Copy {
 }
 
 // The unit that a node occupies.
-#[derive(Clone, Copy, Debug, PartialEq, Eq)]
+#[derive(Clone, Copy, Debug, Default, PartialEq, Eq)]
 pub struct NodeUnit(pub u8);
 
 impl NodeUnit {
