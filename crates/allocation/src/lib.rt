@@ -16,6 +16,7 @@ use units::{BranchRoot, Count, NodeUnit};
 
 // ---- ways that go
 
+#[tactic(auto, unfolding(crate::specs::Going::cleared_if))]
 fn release_if(map: &mut [u64; 4], u: u8, died: bool)
     ensures { map.new ≡ cleared_if died map.old u }
 {
@@ -103,6 +104,7 @@ pub fn gains_fit(counts: &[u16; 512], gains: &[u8], losses: &[u8]) -> bool
 // ---- dead branches
 
 // No buffer and no input names the branch.
+#[tactic(auto, unfolding(crate::specs::Sweep::dead_in))]
 fn dead(counts: &[u16; 512], hold: &[u8; 2380], b: BranchRoot) -> bool
     ensures { result ≡ dead_in counts.now hold.now b.0 }
 {
@@ -110,6 +112,7 @@ fn dead(counts: &[u16; 512], hold: &[u8; 2380], b: BranchRoot) -> bool
 }
 
 // A branch that is dead goes, and its units with it.
+#[tactic(auto, unfolding(crate::specs::Sweep::swept_hold, crate::specs::Sweep::swept_map))]
 pub fn sweep_one(counts: &[u16; 512], hold: &mut [u8; 2380], map: &mut [u64; 4], b: BranchRoot)
     ensures hold { hold.new ≡ swept_hold counts.now hold.old b.0 }
     ensures map { map.new ≡ swept_map counts.now hold.old map.old b.0 }

@@ -1,15 +1,16 @@
 -- The tests behind `head` and `first_line`, and what the numbers say of the rules. Assumes nothing.
-use mathlib.Core.Path.{◌≡◌, refl, sym, ap, ◌∙◌}
-use mathlib.Core.Bool.{Bool, true, false, ◌&&◌, cond, not}
+use mathlib.Core.Path.{◌≡◌, refl, sym, ap, ap₂, ◌∙◌}
+use mathlib.Core.Bool.{Bool, true, false, ◌&&◌}
 use mathlib.Core.List.{List, [], ◌∷◌}
-use Prim.Native.Nat.{ℕ, suc, ◌+◌, ◌≤◌, ◌<◌}
+use Prim.Native.Nat.{ℕ, suc, ◌≤◌, ◌<◌}
 use native.Mathlib.Omega.{arith}
 use lib.Dec.{eqb, leb}
 use lib.ListN.{length, get_or, drop}
 use borrow.Author.Tests.{le-leb, lt-leb, eq-eqb, ne_eqb}
-use Rattle.std.specs.Prelude.{Option, Some, None, nat_lt}
-use Rattle.std.specs.List.{position, position_or_len}
 use Rattle.units.specs.declared.Kind.{Kind}
+use Rattle.units.specs.declared.Refusal.{Refusal}
+use Rattle.units.specs.declared.Refusal.TheVariants.{BadPlace, UnfitSlot, NoSuchChild, OutOfRange, NotTheInput, TooMany, TooDeep, NotFresh, CountTooHigh}
+use Rattle.units.specs.Refusals.{number_of}
 use Rattle.units.specs.Kinds.{number_of_kind}
 use Rattle.units.proofs.Numbers.{kind_numbered}
 use Rattle.units.specs.Limits.{last_unit, last_kind}
@@ -22,24 +23,37 @@ use Rattle.lines.specs.Lines.{unless, first_of, numbered, head_of, number, tests
 
 -- ---- the first test that fails
 
-abbrev number_at : ℕ → Option ℕ → ℕ
-number_at n None = 0
-number_at n (Some i) = n + i
+-- the number of the first line whose test fails
+abbrev pub first_left : List Bool → List Refusal → ℕ
+first_left [] rs = 0
+first_left (b ∷ bs) [] = 0
+first_left (b ∷ bs) (r ∷ rs) = unless b (number_of r) (first_left bs rs)
 
-place_on : (n p k : ℕ) → number_at n (cond (nat_lt (1 + p) (suc k)) (Some (1 + p)) None) ≡ number_at (suc n) (cond (nat_lt p k) (Some p) None)
-place_on n p k = grind arith
+pub end_tests : (bs : List Bool) (rs : List Refusal) → length bs ≡ 0 → first_left bs rs ≡ 0
+end_tests [] rs e = refl
+end_tests (b ∷ bs) rs e = absurd (omega arith)
 
-first_place : (n : ℕ) (l : List Bool) → number_at n (position not l) ≡ first_of (numbered n l)
+pub end_lines : (bs : List Bool) (rs : List Refusal) → length rs ≡ 0 → first_left bs rs ≡ 0
+end_lines [] rs e = refl
+end_lines (b ∷ bs) [] e = refl
+end_lines (b ∷ bs) (r ∷ rs) e = absurd (omega arith)
+
+abbrev From : ℕ → List Refusal → Type 0
+From n [] = Unit {0}
+From n (r ∷ rs) = (number_of r ≡ n) × From (suc n) rs
+
+left_numbered : (n : ℕ) (bs : List Bool) (rs : List Refusal) → From n rs → length bs ≤ length rs → first_left bs rs ≡ first_of (numbered n bs)
 unfolding first_of
-first_place n [] = refl
-first_place n (false ∷ l) = ap (λ (b : Bool). number_at n (cond b (Some 0) None)) (le-leb 1 (length (false ∷ l)) (omega arith)) ∙ omega arith
-first_place n (true ∷ l) = place_on n (position_or_len not l) (length l) ∙ first_place (suc n) l
+left_numbered n [] rs f h = refl
+left_numbered n (b ∷ bs) [] f h = absurd (omega arith)
+left_numbered n (b ∷ bs) (r ∷ rs) f h = ap₂ (unless b) f.0 (left_numbered (suc n) bs rs f.1 (omega arith))
 
-pub line_at : (l : List Bool) (i : ℕ) → position not l ≡ Some i → 4 + i ≡ first_of (numbered 4 l)
-line_at l i e = sym (ap (number_at 4) e) ∙ first_place 4 l
+-- the lines 4 to 12
+abbrev pub lines : List Refusal
+lines = BadPlace ∷ UnfitSlot ∷ NoSuchChild ∷ OutOfRange ∷ NotTheInput ∷ TooMany ∷ TooDeep ∷ NotFresh ∷ CountTooHigh ∷ []
 
-pub line_none : (l : List Bool) → position not l ≡ None → 0 ≡ first_of (numbered 4 l)
-line_none l e = sym (ap (number_at 4) e) ∙ first_place 4 l
+pub all_left : (bs : List Bool) → length bs ≤ 9 → first_left bs lines ≡ first_of (numbered 4 bs)
+all_left bs h = left_numbered 4 bs lines (refl, (refl, (refl, (refl, (refl, (refl, (refl, (refl, (refl, tt))))))))) h
 
 -- ---- lines 1 to 3
 

@@ -1,8 +1,7 @@
 // The table of refusals: the lines 1 to 3 of any record, and the first of the lines 4 to 12 that applies.
 #![tactic(auto)]
 
-ghost use Rattle.std.specs.Prelude.{◌≡◌, ◌<◌, IfOk, IfSome, get_or, not};
-ghost use Rattle.std.specs.List.{position};
+ghost use Rattle.std.specs.Prelude.{◌≡◌, IfOk, get_or};
 ghost use Rattle.units.specs.Kinds.{number_of_kind};
 ghost use Rattle.lines.specs.Lines.{head_of, first_of, numbered, refusal_number};
 
@@ -38,21 +37,16 @@ const LINES: [Refusal; 9] = [
     Refusal::CountTooHigh,
 ];
 
-// Where the first test that fails stands.
-fn first_failing(tests: &[bool; 9]) -> Option<usize>
-    ensures first { result ≡ position not tests.now }
-    ensures within { IfSome result (λ i. i < 9) }
-{
-    tests.iter().position(|passes| !passes)
-}
-
-// The first of the lines 4 to 12 whose test fails.
-#[tactic(auto, using(crate::proofs::Lines::line_at, crate::proofs::Lines::line_none))]
+// The first of the lines 4 to 12 whose test fails. The tests come as nine bools and not one by one: each kind's `.._tests`, as
+// `quiet::take_tests`, promises a list of nine (docs/DECISIONS.md, "Judging answers nine tests").
+#[tactic(auto, using(crate::proofs::Lines::all_left, crate::proofs::Lines::end_tests, crate::proofs::Lines::end_lines))]
 pub fn first_line(tests: [bool; 9]) -> Result<(), Refusal>
     ensures { refusal_number result ≡ first_of (numbered 4 tests) }
 {
-    match first_failing(&tests) {
-        Some(i) => Err(LINES[i]),
-        None => Ok(()),
+    for (passes, line) in tests.iter().zip(&LINES) {
+        if !passes {
+            return Err(*line);
+        }
     }
+    Ok(())
 }

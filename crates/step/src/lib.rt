@@ -28,7 +28,8 @@ pub fn empty(
     *map = [0u64; 4];
 }
 
-// The refusal of a step's number. Public, and so it answers a number that is no line's too, with the last line.
+// The refusal of a step's number; of 0 and of a number above 12 the last line. Its clause is a public promise on every number, these
+// included, and so the function stays: a `TryFrom` would give an error for them.
 pub fn refusal_of(number: u8) -> Refusal
     ensures { result ≡ refusal_of number }
 {

@@ -1,6 +1,6 @@
 // The kinds of number of document 01, each with its limits, the lengths of the records' bodies, and the refusals.
 // A node's unit and a branch's root are different kinds, so that neither can be passed where the other is wanted: document 01 names
-// the form, two tuple structs over a byte, with constants and constructors of each kind. Hence no generic type, and four times `new`.
+// the form, two tuple structs over a byte, with constants and constructors of each kind. Hence no generic type, and a `new` for each.
 #![tactic(auto)]
 
 ghost use Rattle.std.specs.Prelude.{◌≡◌, Bool, ◌&&◌, ℕ, ◌<◌, ◌≤◌, eqb, leb, ltb};
