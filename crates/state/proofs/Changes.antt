@@ -3,31 +3,30 @@
 -- Assumes nothing.
 use mathlib.Core.Path.{◌≡◌, refl, sym, ap, ap₂, ◌∙◌, subst}
 use mathlib.Core.Bool.{Bool, true, false, ◌||◌, ◌&&◌, not, cond}
-use mathlib.Core.Logic.{◌⊎◌, inl, inr, ⊎_elim}
-use mathlib.Core.List.{List, [], ◌∷◌, ◌++◌}
+use mathlib.Core.List.{List, []}
 use mathlib.Core.Option.{Option, none, some}
-use Prim.Native.Nat.{ℕ, zero, suc, ◌+◌, ◌-◌, ◌*◌, ◌≤◌, ◌<◌}
+use Prim.Native.Nat.{ℕ, zero, suc, ◌+◌, ◌-◌, ◌≤◌}
 use native.Mathlib.Omega.{arith}
 use lib.Dec.{T, eqb, leb, ltb}
-use lib.ListN.{length, get_or, set}
+use lib.ListN.{get_or}
 use borrow.Author.Tests.{lt-ltb, ne_eqb}
-use Rattle.units.specs.Limits.{last_unit, most_count}
+use Rattle.units.specs.Limits.{last_unit}
 use Rattle.ways.specs.Ways.{has, gone}
 use Rattle.ways.specs.Levels.{some_of}
 use Rattle.rules.specs.Tables.{times, keys, puts, is_some, or_else, joined}
-use Rattle.rules.specs.Store.{units, Node, Slot, Store, blank, slot_units, ways, places, in_use, held, alive, owned}
-use Rattle.rules.specs.Steps.{Outcome, accepted, Change, decide, Step, change}
+use Rattle.rules.specs.Store.{units, Node, Slot, Store, blank, slot_units, ways, places, in_use, held, owned}
+use Rattle.rules.specs.Steps.{accepted, decide, Step, change}
 use Rattle.rules.specs.Right.{Right}
-use Rattle.ways.proofs.Tests.{T→eq, eq→T, F→eq, eq→not, iff_eq, and_l, and_r, and_i, or_e, or_l, or_r}
+use Rattle.ways.proofs.Tests.{eq→T, F→eq, iff_eq, and_l, and_r}
 use Rattle.ways.proofs.Levels.{some_has, has_some}
-use Rattle.ways.proofs.Members.{has_pos, pos_has}
+use Rattle.ways.proofs.Members.{has_pos}
 use Rattle.right.proofs.Ledger.{has_unit}
 use Rattle.right.proofs.Steps.{Even, change_right}
 use Rattle.right.proofs.Extended.{over, branch_part}
 use Rattle.right.proofs.Held.{held_owns}
 use Rattle.right.proofs.Prune.{not_seen}
 use Rattle.tables.proofs.Kept.{hold_same}
-use Rattle.right.proofs.After.{undropped, after_root, after_slots, after_inputs, after_branches, ways_end, node_end, key_unit, drop_unit, places_low, dead, held_change}
+use Rattle.right.proofs.After.{undropped, after_slots, after_inputs, after_branches, ways_end, node_end, key_unit, places_low, dead, held_change}
 use Rattle.counting.specs.Change.{drop_trees, drop_counts}
 use Rattle.counting.specs.Places.{add_places, drop_places}
 use Rattle.counting.proofs.Counts.{Low}
@@ -35,7 +34,6 @@ use Rattle.path.proofs.Trees.{tree_drops, tree_within}
 use Rattle.path.specs.Standing.{TreeIs}
 use Rattle.tables.specs.Hold.{HoldIs}
 use Rattle.state.specs.Standing.{CountsAre, MapIs}
-use Rattle.state.specs.Stands.{Arrays, Stands}
 use Rattle.state.proofs.Counts.{counts_drops, counts_less, counts_more, counts_same}
 use Rattle.state.proofs.Maps.{map_same}
 

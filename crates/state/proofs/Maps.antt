@@ -2,12 +2,12 @@
 use mathlib.Core.Path.{◌≡◌, refl, sym, ap, ◌∙◌}
 use mathlib.Core.Bool.{Bool, true, false, ◌||◌, ◌&&◌, not}
 use mathlib.Core.List.{List, [], ◌∷◌}
-use Prim.Native.Nat.{ℕ, ◌+◌, ◌≤◌, ◌<◌}
+use Prim.Native.Nat.{ℕ, ◌≤◌}
 use native.Mathlib.Omega.{arith}
 use lib.Dec.{eqb}
 use Rattle.units.specs.Limits.{last_unit}
 use Rattle.ways.specs.Ways.{has}
-use Rattle.held_map.specs.Map.{Words, held_in, mark, clear, clears, empty_map, Bytes}
+use Rattle.held_map.specs.Map.{mark, clears, empty_map, Bytes}
 use Rattle.held_map.proofs.Map.{mark_words, clears_words, held_mark, held_clears, map_ext, empty_words, empty_held}
 use Rattle.counting.proofs.Counts.{Low}
 use Rattle.state.specs.Standing.{MapIs, marks}

@@ -1,27 +1,26 @@
 -- A store's bytes are determined by the store, and a right store by its bytes. Assumes nothing.
 use mathlib.Core.Path.{◌≡◌, refl, sym, ap, ap₂, ◌∙◌, subst, fun_ext}
 use mathlib.Core.Bool.{Bool, true, false, true≢false}
-use mathlib.Core.Logic.{◌⊎◌, inl, inr, ⊎_elim}
-use mathlib.Core.List.{List, [], ◌∷◌}
+use mathlib.Core.List.{List, []}
 use mathlib.Core.Option.{Option, none, some}
-use Prim.Native.Nat.{ℕ, zero, suc, ◌+◌, ◌-◌, ◌≤◌, ◌<◌}
+use Prim.Native.Nat.{ℕ, ◌-◌, ◌≤◌, ◌<◌}
 use native.Mathlib.Omega.{arith}
 use lib.Dec.{T, leb, ltb, leb→le}
-use lib.ListN.{length, get_or, take}
+use lib.ListN.{length, get_or}
 use lib.Seq.{ext_get_or}
 use borrow.Author.Tests.{leb-true, leb-false}
-use Rattle.units.specs.Limits.{last_unit, room, slot_count, compactor_count}
-use Rattle.rules.specs.Tables.{all, slice, is_some, or_else}
-use Rattle.rules.specs.Store.{Node, Slot, empty, opened, sealed, Store, blank, node_at, slot_units, ways, reached}
+use Rattle.units.specs.Limits.{last_unit, room}
+use Rattle.rules.specs.Tables.{slice, is_some, or_else}
+use Rattle.rules.specs.Store.{Node, Slot, empty, opened, sealed, Store, blank, node_at, slot_units, ways}
 use Rattle.rules.specs.Right.{NodeOk, slot_ok, Sound, Right}
-use Rattle.ways.proofs.Tests.{T→eq, eq→T, F→eq, eq→not, and_r}
+use Rattle.ways.proofs.Tests.{and_r}
 use Rattle.right.proofs.Lists.{all_get}
 use Rattle.right.proofs.Held.{reached_node}
 use Rattle.records.specs.Rows.{eight, eight_whole}
-use Rattle.counting.specs.Nodes.{node_in, coded, root_read}
+use Rattle.counting.specs.Nodes.{coded, root_read}
 use Rattle.path.proofs.Trees.{tree_ext}
 use Rattle.path.proofs.Paths.{node_in_lem}
-use Rattle.tables.specs.Hold.{coded_branch, coded_slot, coded_input, slot_state, branch_in, slot_in, input_in}
+use Rattle.tables.specs.Hold.{coded_branch, coded_slot, coded_input, slot_state}
 use Rattle.tables.proofs.Kept.{branch_read_lem, slot_read_lem, input_read_lem, hold_ext}
 use Rattle.state.specs.Stands.{Arrays, Stands}
 use Rattle.state.proofs.Counts.{counts_ext}
