@@ -143,28 +143,35 @@ pub walk_over : (tree : List ℕ) (d u : ℕ) (t t' : List ℕ) {e : Refusal} {r
 walk_over tree d u t t' {e} {r} h o p =
     on t' r (ap (counted t) (walk_split tree d u h)) (halt (visit_of tree u) (counts_of tree (flat (visits (children_in tree) (d - 1)) (children_in tree u))) t t' o p)
 
-pub children_none : (tree : List ℕ) (d : ℕ) (cs t : List ℕ) → length cs ≡ 0 → Outcome (counted t (counts_of tree (flat (visits (children_in tree) d) cs))) t (Ok tt)
+-- the loop over the children: what is left, counted from here, gives what was asked
+
+abbrev pub LeftChildren : (tree : List ℕ) (d : ℕ) (cs t₀ t : List ℕ) (i : ℕ) → Type 0
+LeftChildren tree d cs t₀ t i = counted t (counts_of tree (flat (visits (children_in tree) d) (drop i cs))) ≡ counted t₀ (counts_of tree (flat (visits (children_in tree) d) cs))
+
+-- what stands from i on
+children_from : (tree : List ℕ) (d : ℕ) (cs : List ℕ) (i : ℕ) → i < length cs
+    → counts_of tree (flat (visits (children_in tree) d) (drop i cs))
+    ≡ counts_of tree (visits (children_in tree) d (get_or cs i 0)) ++ counts_of tree (flat (visits (children_in tree) d) (drop (i + 1) cs))
+children_from tree d cs i h =
+    rw (drop-cons cs i 0 h, add-one) (flat_append (visit_of tree) (visits (children_in tree) d (get_or cs i 0)) (flat (visits (children_in tree) d) (drop (suc i) cs)))
+
+pub children_turn : (tree : List ℕ) (d : ℕ) (cs t₀ t t' : List ℕ) (i : ℕ) → i < length cs → LeftChildren tree d cs t₀ t i
+    → Outcome (counted t (counts_of tree (visits (children_in tree) d (get_or cs i 0)))) t' (Ok tt) → LeftChildren tree d cs t₀ t' (i + 1)
+children_turn tree d cs t₀ t t' i h v o =
+    sym (next (counts_of tree (visits (children_in tree) d (get_or cs i 0))) (counts_of tree (flat (visits (children_in tree) d) (drop (i + 1) cs))) t t' o)
+    ∙ ap (counted t) (sym (children_from tree d cs i h))
+    ∙ v
+
+pub children_over : (tree : List ℕ) (d : ℕ) (cs t₀ t t' : List ℕ) (i : ℕ) {e : Refusal} {r : Answer} → i < length cs → LeftChildren tree d cs t₀ t i
+    → Outcome (counted t (counts_of tree (visits (children_in tree) d (get_or cs i 0)))) t' (Err e) → r ≡ Err e
+    → Outcome (counted t₀ (counts_of tree (flat (visits (children_in tree) d) cs))) t' r
+children_over tree d cs t₀ t t' i {e} {r} h v o p =
+    on t' r (sym v ∙ ap (counted t) (children_from tree d cs i h))
+    (halt (counts_of tree (visits (children_in tree) d (get_or cs i 0))) (counts_of tree (flat (visits (children_in tree) d) (drop (i + 1) cs))) t t' o p)
+
+pub children_end : (tree : List ℕ) (d : ℕ) (cs t₀ t : List ℕ) (i : ℕ) → length cs ≤ i → LeftChildren tree d cs t₀ t i
+    → Outcome (counted t₀ (counts_of tree (flat (visits (children_in tree) d) cs))) t (Ok tt)
 unfolding counted
-children_none tree d [] t e = (refl, refl)
-children_none tree d (c ∷ cs) t e = absurd (omega arith)
-
--- the first, then the others
-children_split : (tree : List ℕ) (d c : ℕ) (cs rest : List ℕ) → cs ≡ c ∷ rest
-    → counts_of tree (flat (visits (children_in tree) d) cs) ≡ counts_of tree (visits (children_in tree) d c) ++ counts_of tree (flat (visits (children_in tree) d) rest)
-children_split tree d c cs rest e = rw e (flat_append (visit_of tree) (visits (children_in tree) d c) (flat (visits (children_in tree) d) rest))
-
-pub children_on : (tree : List ℕ) (d c : ℕ) (cs rest t t' t'' : List ℕ) (r : Answer) → cs ≡ c ∷ rest
-    → Outcome (counted t (counts_of tree (visits (children_in tree) d c))) t' (Ok tt)
-    → Outcome (counted t' (counts_of tree (flat (visits (children_in tree) d) rest))) t'' r
-    → Outcome (counted t (counts_of tree (flat (visits (children_in tree) d) cs))) t'' r
-children_on tree d c cs rest t t' t'' r h o =
-    on t'' r
-    (ap (counted t) (children_split tree d c cs rest h)
-    ∙ next (counts_of tree (visits (children_in tree) d c)) (counts_of tree (flat (visits (children_in tree) d) rest)) t t' o)
-
-pub children_over : (tree : List ℕ) (d c : ℕ) (cs rest t t' : List ℕ) {e : Refusal} {r : Answer} → cs ≡ c ∷ rest
-    → Outcome (counted t (counts_of tree (visits (children_in tree) d c))) t' (Err e) → r ≡ Err e
-    → Outcome (counted t (counts_of tree (flat (visits (children_in tree) d) cs))) t' r
-children_over tree d c cs rest t t' {e} {r} h o p =
-    on t' r (ap (counted t) (children_split tree d c cs rest h))
-    (halt (counts_of tree (visits (children_in tree) d c)) (counts_of tree (flat (visits (children_in tree) d) rest)) t t' o p)
+children_end tree d cs t₀ t i h v =
+    let z : drop i cs ≡ [] = drop_of_length-le cs {i = i} h in
+    on {o' = some t} t (Ok tt) (sym v ∙ ap (λ (l : List ℕ). counted t (counts_of tree (flat (visits (children_in tree) d) l))) z) (refl, refl)

@@ -71,11 +71,10 @@ fn walk_children(
 ) -> Result<(), Refusal>
     ensures { Outcome (counted counts.old (counts_of tree.now (flat (visits (children_in tree.now) depth) children.now))) counts.new result }
 {
-    let Some((&first, rest)) = children.split_first() else {
-        return Ok(());
-    };
-    walk_node(tree, counts, NodeUnit(first), depth)?;
-    walk_children(tree, counts, rest, depth)
+    for &c in children {
+        walk_node(tree, counts, NodeUnit(c), depth)?;
+    }
+    Ok(())
 }
 
 // The counts that the tree has, in place of what stood there. Refused, what stands there is of no use.
