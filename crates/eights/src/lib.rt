@@ -23,7 +23,7 @@ fn moved_offset(o: u8, start: u8, end: u8) -> u8
     o.saturating_sub(end.saturating_sub(start).saturating_sub(1))
 }
 
-// How many there are of `number` when from `at` on `gone` go and `come` come; at most eight.
+// How many there are of `number` when from `at` on `gone` go and `come` come; at most eight, so that `as u8` loses nothing.
 #[tactic(auto, unfolding(counting::specs::Places::up_to))]
 pub fn number_after(number: u8, at: u8, gone: u8, come: usize) -> u8
     ensures { result ≡ number_after number at gone come }

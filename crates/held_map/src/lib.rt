@@ -45,7 +45,7 @@ pub fn number(map: &[u64; 4]) -> u32
     map.iter().map(|w| w.count_ones()).sum()
 }
 
-// The lowest bit of w that is 0, or 64.
+// The lowest bit of w that is 0, or 64. (Here and below `as u8` narrows a number of at most 64, for which there is no `From`.)
 #[tactic(auto, using(crate::proofs::Lowest::lowest_zero))]
 fn lowest_zero(w: u64) -> u8
     ensures { LowestZero w result }
@@ -86,7 +86,8 @@ impl Units {
         Units { word, base }
     }
 
-    // Those that are left, stored from `at` on.
+    // Those that are left, stored from `at` on. The place is counted, as the answer is the one behind the last; `enumerate` would add it
+    // to `at` twice.
     #[tactic(auto, unfolding(crate::specs::Lists::inserted))]
     fn list(self, out: &mut [u8], at: usize) -> usize
         requires { at + length (left self) ≤ length out.old }

@@ -31,7 +31,7 @@ fn mark_word(tree: &[u8; 6656], units: Units, below: &mut [u64; 4])
     }
 }
 
-// All children of the units in a level join `below`.
+// All children of the units in a level join `below`. (`as u8` narrows an index below 4, for which there is no `From`.)
 pub fn level_below(tree: &[u8; 6656], level: &[u64; 4], below: &mut [u64; 4])
     ensures { below.new ≡ below_in tree.now level.now below.old }
 {

@@ -17,7 +17,8 @@ pub enum Owner {
     Slot(UnfinishedSlot),
 }
 
-// This and the next read two kinds of row; one function of both would take the read as a closure, and be longer than the two.
+// This and the next read two kinds of row; one function of both would take the read, and what gives its places and their number, as
+// closures, and be longer than the two.
 #[tactic(auto, unfolding(crate::specs::Owners::in_branch))]
 fn in_branch(hold: &[u8; 2380], b: BranchRoot, u: u8) -> bool
     ensures { result ≡ in_branch hold.now u b.0 }

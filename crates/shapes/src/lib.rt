@@ -83,7 +83,8 @@ pub fn over(r: NodeUnit) -> Node
     replace_children(Node::default(), 0, 0, &[r.0], &[0])
 }
 
-// The child at place i is u, and keeps its offset: the rules' word for a copy on the path. The steps copy by `path::with_child`.
+// The child at place i is u, and keeps its offset: the rules' word for a copy on the path. The steps copy by `path::with_child`, which
+// promises less; nothing calls this one today, and it stays, as a public promise.
 pub fn with_child(n: Node, i: u8, u: NodeUnit) -> Node
     ensures { result ≡ with_child n i u.0 }
 {
