@@ -1,0 +1,35 @@
+-- Laws of counting for loops and answers that src/ no longer has. Assumes nothing.
+use mathlib.Core.Bool.{Bool, true, false, cond}
+use mathlib.Core.Path.{◌≡◌, refl, sym, ◌∙◌}
+use mathlib.Core.List.{List, [], ◌∷◌}
+use Prim.Native.Nat.{ℕ, suc, ◌+◌, ◌-◌, ◌≤◌, ◌<◌}
+use native.Mathlib.Omega.{arith}
+use native.Mathlib.Numerals.{add-one}
+use lib.Dec.{ltb}
+use lib.ListN.{length, get_or, drop, length-drop}
+use lib.Seq.{take_all, drop-cons}
+use borrow.Author.Tests.{ltb-false}
+use Rattle.units.specs.Limits.{room}
+use Rattle.rules.specs.Tables.{slice}
+use Rattle.counting.specs.Places.{up_to}
+
+pub run_start : (bs : List ℕ) (from to : ℕ) → length bs ≡ room → slice from (up_to to - from) bs ≡ slice from (to - from) bs
+unfolding up_to
+run_start bs from to e = go (ltb to room) refl
+  where
+    go : (b : Bool) → ltb to room ≡ b → slice from (cond b to room - from) bs ≡ slice from (to - from) bs
+    go true q = refl
+    go false q =
+        take_all (room - from) (drop from bs) (omega (arith, length-drop from bs))
+        ∙ sym (take_all (to - from) (drop from bs) (omega (arith, length-drop from bs, ltb-false to room q)))
+
+pub run_turn : (bs : List ℕ) (i end : ℕ) → i < end → end ≤ length bs → slice i (end - i) bs ≡ get_or bs i 0 ∷ slice (i + 1) (end - (i + 1)) bs
+run_turn bs i end p q =
+    let e : end - i ≡ suc (end - (i + 1)) = omega arith in
+    let h : i < length bs = omega arith in
+    rw (e, drop-cons bs i 0 h, add-one) refl
+
+pub run_end : (bs : List ℕ) (i end : ℕ) → end ≤ i → slice i (end - i) bs ≡ []
+run_end bs i end p =
+    let e : end - i ≡ 0 = omega arith in
+    rw e refl

@@ -1,0 +1,14 @@
+pub mod CountingEach
+pub mod AllocationLoops
+pub mod BodiesBodies
+pub mod EightsPlaces
+pub mod EightsRuns
+pub mod HeldMapMap
+pub mod HeldMapLists
+pub mod LevelsDepth
+pub mod PathWalks
+pub mod PathedAnswers
+pub mod QuietInputs
+pub mod TablesLoops
+pub mod ImagesLaying
+pub mod ImagesPasses
