@@ -10,5 +10,7 @@ pub mod PathWalks
 pub mod PathedAnswers
 pub mod QuietInputs
 pub mod TablesLoops
+pub mod RootedCalls
+pub mod QuietSlots
 pub mod ImagesLaying
 pub mod ImagesPasses
