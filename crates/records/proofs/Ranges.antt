@@ -1,5 +1,5 @@
 -- What `a..b` and `a..=b` of the code give, one number after another, as a list of the rules. Assumes nothing.
-use Rattle.std.proofs.Common.{◌≡◌, ℕ, zero, suc, ◌+◌, ◌-◌, Bool, true, false, None, Some, List, ◌∷◌, length, refl, ap, ◌∙◌, subst, add-one, arith}
+use Rattle.std.proofs.Common.{◌≡◌, ℕ, zero, suc, ◌+◌, ◌-◌, Bool, true, false, None, Some, List, ◌∷◌, length, map, refl, ap, ◌∙◌, subst, add-one, arith}
 use Rattle.std.specs.declared.ops.Range.{Range}
 use Rattle.std.specs.declared.ops.RangeInclusive.{RangeInclusive}
 use Rattle.std.specs.List.{range_with_len}
@@ -19,6 +19,11 @@ range_same (suc n) a = ap (λ (l : List ℕ). a ∷ l) (rw add-one (range_same n
 
 pub range_gives : {s : Range ℕ} (a b : ℕ) → s ≡ record { start = a; end = b } → YieldsList nat_range_steps (λ x. x) s (range (b - a) a)
 range_gives {s} a b e = subst (YieldsList nat_range_steps (λ x. x) s) (range_same (b - a) a) (YieldsList-from_range a b (b - a) e refl)
+
+-- numbers from one on, as those from `a` on with one added
+pub map_up : {A : Type 0} (f : ℕ → A) (n a : ℕ) → map (λ k. f (k + 1)) (range n a) ≡ map f (range n (suc a))
+map_up f zero a = refl
+map_up {A} f (suc n) a = rw add-one (ap (λ (l : List A). f (suc a) ∷ l) (map_up f n (suc a)))
 
 -- ---- `a..=b`
 

@@ -3,7 +3,7 @@
 
 ghost use Rattle.std.specs.Prelude.{◌≤◌, ◌+◌, ◌≡◌, length};
 ghost use Rattle.units.specs.Limits.{room};
-ghost use Rattle.records.specs.Rows.{eight_at, poured};
+ghost use Rattle.records.specs.Rows.{eight_at, poured, AllBytes};
 
 // The bytes of src into s from `at` on.
 pub fn pour(s: &mut [u8], at: usize, src: &[u8])
@@ -22,3 +22,8 @@ pub fn eight(s: &[u8], at: usize) -> [u8; 8]
     read.copy_from_slice(&s[at..at + 8]);
     read
 }
+
+// What the type of a byte says, told to the proofs: each is below 256. The check tells it of every lent array besides.
+pub fn bytes(s: &[u8])
+    ensures { AllBytes s.now }
+{}
