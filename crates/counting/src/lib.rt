@@ -8,12 +8,12 @@ ghost use Rattle.std.specs.Prelude.{◌-◌, ◌≡◌, ℕ, get_or, set};
 ghost use Rattle.rules.specs.Tables.{slice};
 ghost use Rattle.counting.specs.Nodes.{node_in, put_node, bytes_of};
 ghost use Rattle.counting.specs.Change.{last_way, drop_tree, drop_count};
-ghost use Rattle.counting.specs.Places.{place_of, Computes, change_places, add_place, add_places, drop_places};
+ghost use Rattle.counting.specs.Places.{place_of, Computes, change_places, add_place, drop_place, add_places, drop_places};
 
 use units::{BranchRoot, NodeUnit, Unit};
 
 // The bytes of a node's row.
-const STRIDE: usize = 26;
+pub const STRIDE: usize = 26;
 
 // Where the branches' counts begin.
 pub const PLACES: usize = 256;
@@ -168,4 +168,10 @@ pub fn add_place(counts: &mut [u16; 512], b: BranchRoot)
     ensures { counts.new ≡ add_place counts.old b.0 }
 {
     add_places(counts, &[b.0]);
+}
+
+pub fn drop_place(counts: &mut [u16; 512], b: BranchRoot)
+    ensures { counts.new ≡ drop_place counts.old b.0 }
+{
+    drop_places(counts, &[b.0]);
 }
