@@ -69,7 +69,7 @@ add_other (suc k) (suc j) w e d =
 
 -- ---- a bit cleared
 
-sub_le : (k w : ℕ) → bit w k ≡ 1 → 2 ^ k ≤ w
+pub sub_le : (k w : ℕ) → bit w k ≡ 1 → 2 ^ k ≤ w
 sub_le zero w e = omega (arith, bit_zero w)
 sub_le (suc k) w e = let q = sub_le k (w / 2) (sym (bit_suc w k) ∙ e) in omega (arith, pow-suc 2 k)
 
