@@ -11,6 +11,14 @@ pub record RecordLaws (kind size key : ℕ) : Type 0 where
   pub small : size ≤ 255
   pub keyed : key < size
 
+-- where the records of kind k from p on end, if they lie within the image
+abbrev pub run_end : ℕ → ℕ → List ℕ → ℕ → Option ℕ
+run_end k n b p = let e = p + n * run_of k n (length b) b p in cond (leb e (length b)) (Some e) None
+
+-- the four runs as a scan goes through them, one after another
+abbrev pub runs_end : List ℕ → Option ℕ
+runs_end b = option_and_then (λ p. option_and_then (λ q. option_and_then (λ t. run_end 36 11 b t) (run_end 35 12 b q)) (run_end 34 12 b p)) (run_end 33 30 b 2)
+
 -- where the records of kind k from p on end, if they lie within the image and are laid out rightly
 abbrev pub section_end : ℕ → ℕ → ℕ → List ℕ → ℕ → Option ℕ
 section_end k n o b p =

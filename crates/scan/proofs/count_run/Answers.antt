@@ -1,21 +1,17 @@
-use Rattle.std.proofs.Common.{arith, rules, ap, ◌∙◌}
-use borrow.Author.Tests.{tests}
-use Rattle.scan.proofs.Strides.{strode}
+use Rattle.std.proofs.Common.{arith, sym}
+use Rattle.images.proofs.Passes.{run_turn, run_end}
+use Rattle.scan.proofs.Strides.{no_more}
 use Rattle.scan.proofs.count_run.Goals as goal
 
+pub returns-then-not-is_kind : goal.returns-then-not-is_kind
+returns-then-not-is_kind c = (
+  run_end c.args.b.now c.args.p c.args.kind c.args.size c.loop-n.at c.loop-n.n c.loop-n.invariant (sym c.if-not-is_kind.ensures),
+  omega (arith, c.loop-n.invariant.place, c.loop-n.invariant.near),
+)
+
+pub loop-n-preserved : goal.loop-n-preserved
+loop-n-preserved c =
+    run_turn c.args.b.now c.args.p c.args.kind c.args.size c.loop-n.at c.loop-n.n c.requires.0 c.requires.1 c.requires.2 c.loop-n.invariant (sym c.if-not-is_kind.ensures)
+
 pub returns : goal.returns
-returns g c =
-    let r = g.R.Record in
-    let b = c.args.b.now in
-    let u = c.count.ensures.runs in
-    let q = c.take_while.ensures.runs u.0 u.0.seen u.1 in
-    let s = c.step_by.ensures.runs q.0 q.0.seen q.1 in
-    let i = c.iter.ensures.runs s.0 s.0.seen in
-    let t = q.2.2 (λ a x f h. search rules) in
-    rw u.3 (strode b c.args.p r.KIND r.SIZE g.met.R.Record.laws (omega arith)
-    s.0.from.rest.now (ap (λ x. x.rest.now) s.1 ∙ c.iter.ensures.rest)
-    u.0.at q.0.at s.0.at u.0.len q.0.len s.0.len q.0.whole s.0.whole _ _
-    (λ x h. search (rules, tests)) (λ x h e. search (rules, tests))
-    q.2.0 q.2.1 t.0 (t.1 u.2)
-    s.2.0 (rw c.SIZE.ensures at s.2.2) (rw c.SIZE.ensures at s.2.3) (rw c.SIZE.ensures at s.2.4)
-    i.1 i.2 i.3)
+returns c = no_more c.args.b.now c.args.p c.args.kind c.args.size c.loop-n.at c.loop-n.n c.requires.0 c.requires.1 c.loop-n.invariant (omega arith)

@@ -4,10 +4,9 @@ use Rattle.images.specs.Passes.{next_at, section_ok}
 use Rattle.scan.proofs.section_laid.Given as goal
 
 abbrev pub invariant-loop-i : goal.invariant-loop-i
-invariant-loop-i g l =
-    let r = g.R.Record in
+invariant-loop-i l =
     record {
-      follows : l.next ≡ next_at r.SIZE r.KEY l.b l.p l.i;
-      so_far : section_ok r.KIND r.SIZE r.KEY l.b l.p l.i ≡ true;
-      small : l.next ≤ 256;
+      follows : l.least ≡ next_at l.size l.o l.b l.p l.i;
+      so_far : section_ok l.kind l.size l.o l.b l.p l.i ≡ true;
+      small : l.least ≤ 256;
     }
