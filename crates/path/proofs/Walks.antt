@@ -4,9 +4,9 @@ use mathlib.Core.Logic.{⊎_elim}
 use mathlib.Core.Path.{◌≡◌, refl, ap, sym, ◌∙◌}
 use mathlib.Core.List.{List, [], ◌∷◌, ◌++◌}
 use Rattle.std.specs.Prelude.{Some, None}
-use Prim.Native.Nat.{ℕ, suc, ◌+◌, ◌≤◌, ◌<◌, min}
+use Prim.Native.Nat.{ℕ, zero, suc, ◌+◌, ◌*◌, ◌≤◌, ◌<◌, min}
 use Rattle.std.proofs.Math.Nat.{min_comm}
-use Rattle.std.proofs.lemmas.List.{take_min}
+use Rattle.std.proofs.lemmas.List.{take_min, length-take}
 use native.Mathlib.Omega.{arith}
 use native.Mathlib.Numerals.{add-one}
 use lib.Dec.{leb, ltb}
@@ -17,9 +17,9 @@ use Rattle.ways.specs.Ways.{follow, spine}
 use Rattle.ways.proofs.Tests.{same_or}
 use Rattle.units.specs.Limits.{room}
 use Rattle.units.specs.Bodies.{indexes}
-use Rattle.records.specs.Rows.{eight, eight_snoc}
+use Rattle.records.specs.Rows.{eight, eight_at, eight_snoc}
 use Rattle.counting.specs.declared.Node.{Node}
-use Rattle.counting.specs.Nodes.{node_in, put_node}
+use Rattle.counting.specs.Nodes.{stride, node_in, put_node}
 use Rattle.counting.specs.Change.{add_counts}
 use Rattle.path.specs.Graph.{named, with_child, eight_in, children_in, found_in, top_of, copied_tree}
 
@@ -40,6 +40,28 @@ index_at n i h = go (leb n.child_number i) refl
     go : (b : Bool) → leb n.child_number i ≡ b → get_or (named n) i 0 ≡ get_or n.children i 0
     go true q = absurd (omega (arith, ltb-true i (length (named n)) h, leb-true n.child_number i q, taken_short n.child_number n.children))
     go false q = get_or-take n.child_number n.children i 0 (leb-false n.child_number i q)
+
+-- ---- an index, read from the row of the node
+
+pub index_read : (l : List ℕ) (u at i : ℕ) → at ≡ u → ltb i (min (get_or l (at * stride + 9) 0) room) ≡ ltb i (length (named (node_in l u)))
+unfolding node_in
+index_read l u at i e = rw e (ap (ltb i) (sym (length-take (get_or l (u * stride + 9) 0) (node_in l u).children)))
+
+-- a place of the eight
+place_read : (l : List ℕ) (b i : ℕ) → i < room → get_or l (b + i) 0 ≡ get_or (eight_at l b) i 0
+place_read l b zero h = ap (λ (j : ℕ). get_or l j 0) (omega arith)
+place_read l b (suc zero) h = refl
+place_read l b (suc (suc zero)) h = refl
+place_read l b (suc (suc (suc zero))) h = refl
+place_read l b (suc (suc (suc (suc zero)))) h = refl
+place_read l b (suc (suc (suc (suc (suc zero))))) h = refl
+place_read l b (suc (suc (suc (suc (suc (suc zero)))))) h = refl
+place_read l b (suc (suc (suc (suc (suc (suc (suc zero))))))) h = refl
+place_read l b (suc (suc (suc (suc (suc (suc (suc (suc i)))))))) h = absurd (omega arith)
+
+pub child_read : (l : List ℕ) (u at i j n : ℕ) → at ≡ u → j ≡ i → true ≡ ltb i (min n room) → get_or l (at * stride + 10 + j) 0 ≡ get_or (node_in l u).children i 0
+unfolding node_in
+child_read l u at i j n e k t = rw (e, k) (place_read l (u * stride + 10) i (omega (arith, ltb-true i (min n room) (sym t))))
 
 -- ---- the node at the end
 

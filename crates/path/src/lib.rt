@@ -2,7 +2,8 @@
 // arrays that are not right every function still ends within bounds.
 #![tactic(auto)]
 
-ghost use Rattle.std.specs.Prelude.{◌≡◌, ltb, length, get_or, take};
+ghost use Rattle.std.specs.Prelude.{◌≡◌, min, ltb, length, get_or, take};
+ghost use Rattle.units.specs.Limits.{room};
 ghost use Rattle.units.specs.Bodies.{indexes};
 ghost use Rattle.ways.specs.Ways.{spine};
 ghost use Rattle.records.specs.Rows.{eight};
@@ -10,7 +11,7 @@ ghost use Rattle.counting.specs.Change.{add_counts};
 ghost use Rattle.path.specs.Graph.{named, with_child, eight_in, found_in, top_of, copied_tree};
 
 use counting::Node;
-use units::NodeUnit;
+use units::{NodeUnit, Unit};
 
 // ---- a node's children
 
@@ -26,7 +27,14 @@ pub fn child_at(n: Node, i: u8) -> NodeUnit
 pub fn has_child(n: Node, i: u8) -> bool
     ensures { result ≡ ltb i (length (named n)) }
 {
-    i < 8 && i < n.child_number
+    is_index(n.child_number, i)
+}
+
+// Whether i is an index among so many children; a number over eight says eight.
+fn is_index(number: u8, i: u8) -> bool
+    ensures { result ≡ ltb i (min number room) }
+{
+    i < 8 && i < number
 }
 
 // The node with another child in place i. By index: after `get_mut` a proof knows none of the children.
@@ -42,17 +50,18 @@ pub fn with_child(mut n: Node, i: u8, c: NodeUnit) -> Node
 // ---- a path
 
 // The node at the end of the path from u, none where the path leads nowhere. The indexes below a node are the rest of the same path.
+// The number of children and the one child are read in place: a whole node would take stack at each index, and a path has any length.
 pub fn follow(tree: &[u8; 6656], path: &[u8], u: NodeUnit) -> Option<NodeUnit>
     ensures { result ≡ found_in tree.now path.now u.0 }
 {
     let Some((&i, rest)) = path.split_first() else {
         return Some(u);
     };
-    let n = counting::read_node(tree, u);
-    if !has_child(n, i) {
+    let at = u.index() * counting::STRIDE;
+    if !is_index(tree[at + 9], i) {
         return None;
     }
-    follow(tree, rest, child_at(n, i))
+    follow(tree, rest, NodeUnit(tree[at + 10 + usize::from(i)]))
 }
 
 // The units of the nodes on the path from u, root first, zeros after them; of a path at most seven indexes are looked at.
