@@ -60,7 +60,7 @@ halt a b t t' {e} {r} o p = rw (counted_append a b t, p) (go (counted t a) o)
     go (some l) o = absurd (cc o.0)
 
 -- the same list in other words
-on : {o o' : Option (List ℕ)} (t : List ℕ) (r : Answer) → o ≡ o' → Outcome o' t r → Outcome o t r
+pub on : {o o' : Option (List ℕ)} (t : List ℕ) (r : Answer) → o ≡ o' → Outcome o' t r → Outcome o t r
 on t r e x = rw e x
 
 -- what the exit of a `?` gives back
@@ -127,6 +127,15 @@ walk_split tree (suc d) u h =
 pub walk_none : (tree : List ℕ) (d u : ℕ) (t : List ℕ) → d ≡ 0 → Outcome (counted t (counts_of tree (visits (children_in tree) d u))) t (Ok tt)
 unfolding visits counted
 walk_none tree d u t e = rw e (refl, refl)
+
+-- no depth is left for a list
+flat_blank : (f : ℕ → List ℕ) → ((u : ℕ) → f u ≡ []) → (cs : List ℕ) → flat f cs ≡ []
+flat_blank f h [] = refl
+flat_blank f h (c ∷ cs) = rw (h c) (flat_blank f h cs)
+
+pub children_low : (tree : List ℕ) (d : ℕ) (cs t : List ℕ) → d ≡ 0 → Outcome (counted t (counts_of tree (flat (visits (children_in tree) d) cs))) t (Ok tt)
+unfolding visits counted
+children_low tree d cs t e = rw (e, flat_blank (visits (children_in tree) 0) (λ u. refl) cs) (refl, refl)
 
 pub walk_on : (tree : List ℕ) (d u : ℕ) (n : Node) (cs t t' t'' : List ℕ) (r : Answer) → (d ≡ 0 → ⊥) → Outcome (counted t (visit_of tree u)) t' (Ok tt)
     → n ≡ node_in tree u → cs ≡ slice 0 (n.child_number - 0) n.children

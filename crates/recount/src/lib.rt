@@ -61,7 +61,7 @@ pub fn walk_node(
     walk_children(tree, counts, children, depth - 1)
 }
 
-// A child that stands there twice is visited twice.
+// A child that stands there twice is visited twice. At depth 0 none is, and none is called.
 #[cycle(walk_children_walk_node)]
 fn walk_children(
     tree: &[u8; 6656],
@@ -71,6 +71,9 @@ fn walk_children(
 ) -> Result<(), Refusal>
     ensures { Outcome (counted counts.old (counts_of tree.now (flat (visits (children_in tree.now) depth) children.now))) counts.new result }
 {
+    if depth == 0 {
+        return Ok(());
+    }
     for &c in children {
         walk_node(tree, counts, NodeUnit(c), depth)?;
     }

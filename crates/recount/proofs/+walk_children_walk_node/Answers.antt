@@ -1,5 +1,8 @@
-use Rattle.recount.proofs.Turns.{passed, walk_none, walk_on, walk_over, children_turn, children_over, children_end}
+use Rattle.recount.proofs.Turns.{passed, children_low, walk_none, walk_on, walk_over, children_turn, children_over, children_end}
 use Rattle.recount.proofs.+walk_children_walk_node.Goals as goal
+
+pub walk_children-returns-then-depth-eq0 : goal.walk_children-returns-then-depth-eq0
+walk_children-returns-then-depth-eq0 t c = children_low c.args.tree.now c.args.depth c.args.children.now c.args.counts.now c.if-depth-eq0.true
 
 pub walk_children-returns-in_err-walk_node : goal.walk_children-returns-in_err-walk_node
 walk_children-returns-in_err-walk_node t c =
