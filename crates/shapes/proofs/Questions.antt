@@ -2,11 +2,12 @@
 use mathlib.Core.Bool.{Bool, true, false, ◌&&◌, cond, and-true, and-false}
 use mathlib.Core.Path.{◌≡◌, refl, ap, sym, ◌∙◌}
 use mathlib.Core.List.{List, [], ◌∷◌, ◌++◌, map}
-use Prim.Native.Nat.{ℕ, suc, ◌+◌, ◌-◌, ◌≤◌, ◌<◌}
+use Prim.Native.Nat.{ℕ, zero, suc, ◌+◌, ◌-◌, ◌≤◌, ◌<◌}
 use native.Mathlib.Omega.{arith}
 use lib.Dec.{eqb, leb, ltb}
 use lib.ListN.{length, get_or, take, drop, length-append, length-drop, length-set}
 use lib.Seq.{length-take-le}
+use Rattle.std.specs.List.{list_all, zip}
 use borrow.Author.Tests.{eqb-true, eqb-false, le-leb}
 use Rattle.ways.specs.Ways.{top}
 use Rattle.rules.specs.Tables.{all, eqs, slice}
@@ -48,6 +49,14 @@ differ [] [] d = absurd (d refl)
 differ [] (b ∷ y) d = refl
 differ (a ∷ x) [] d = refl
 differ (a ∷ x) (b ∷ y) d = rw (differ x y (λ e. d (ap suc e))) (and-false (eqb a b))
+
+-- the first n places of both, asked one after another
+pub all_zip : (a b : List ℕ) (n : ℕ) → length a ≡ length b → list_all (λ (p : ℕ × ℕ). eqb p.0 p.1) (take n (zip a b)) ≡ eqs (take n a) (take n b)
+all_zip a b zero h = refl
+all_zip [] [] (suc n) h = refl
+all_zip [] (y ∷ b) (suc n) h = absurd (omega (arith, h))
+all_zip (x ∷ a) [] (suc n) h = absurd (omega (arith, h))
+all_zip (x ∷ a) (y ∷ b) (suc n) h = ap (λ t. eqb x y && t) (all_zip a b n (omega (arith, h)))
 
 pub part_is_lem : (n : Node) → Fits n → (a e : ℕ) (input : List ℕ) → e ≤ length n.buffers → length input ≤ 8 → part_is (coded n) a e (length input) (eight input) ≡ eqs (slice a (e - a) n.buffers) input
 unfolding part_is

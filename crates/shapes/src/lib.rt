@@ -186,9 +186,14 @@ pub fn part_fits(n: Node, start: u8, end: u8) -> bool
 pub fn part_is(n: Node, start: u8, end: u8, number: u8, input: [u8; 8]) -> bool
     ensures { result ≡ part_is n start end number input }
 {
+    if end.saturating_sub(start) != number {
+        return false;
+    }
     let part = eights::replace(n.buffers, 0, start, &[]);
-    end.saturating_sub(start) == number
-        && counting::part(&part, 0, number) == counting::part(&input, 0, number)
+    part.iter()
+        .zip(&input)
+        .take(usize::from(number))
+        .all(|(x, y)| x == y)
 }
 
 // ---- 9, the sizes
