@@ -9,7 +9,7 @@ use native.Mathlib.Omega.{arith}
 use lib.Dec.{T, eqb, leb, ltb, leb→le}
 use lib.ListN.{length, get_or, set, take, drop, length-drop, length-set}
 use lib.Seq.{length-take-le}
-use borrow.Author.Tests.{ltb-true, le-ltb, eqb-true}
+use borrow.Author.Tests.{ltb-true, ltb-false, le-ltb, eqb-true}
 use Rattle.units.specs.Limits.{last_unit, room, compactor_count}
 use Rattle.units.specs.Bodies.{indexes}
 use Rattle.ways.specs.Ways.{has, flat, follow}
@@ -50,10 +50,15 @@ use Rattle.quiet.specs.Inputs.{is_busy, is_idle, part_of, begin_target, begin_sh
 use Rattle.quiet.proofs.Quiet.{low_of, quiet_fit, quiet_counts, quiet_stands, branches_stay, held_now}
 
 -- the buffers of a node of the rules, from a place up to another
-part_coded : (n : Rattle.rules.specs.Store.Node) → Fits n → (from to : ℕ) → from ≤ to → to ≤ length n.buffers → part_of (coded n) from to ≡ coded_input (slice from (to - from) n.buffers)
+part_coded : (n : Rattle.rules.specs.Store.Node) → Fits n → (from to : ℕ) → to ≤ length n.buffers → part_of (coded n) from to ≡ coded_input (slice from (to - from) n.buffers)
 unfolding part_of
-part_coded n f from to p h = ap₂ (λ (c : ℕ) (l : List ℕ). record { number = c; roots = eight l }) count (eight_slice n.buffers from to f.few_buffers p h)
+part_coded n f from to h = ap₂ (λ (c : ℕ) (l : List ℕ). record { number = c; roots = eight l }) count (roots (ltb to from) refl)
   where
+    -- from behind `to` on there are none
+    roots : (b : Bool) → ltb to from ≡ b → slice from (to - from) (eight n.buffers) ≡ slice from (to - from) n.buffers
+    roots true e = let none : to - from ≡ 0 = omega (arith, ltb-true to from e) in rw none refl
+    roots false e = eight_slice n.buffers from to f.few_buffers (ltb-false to from e) h
+
     count : to - from ≡ length (slice from (to - from) n.buffers)
     count = sym (length-take-le (to - from) (drop from n.buffers) (omega (arith, length-drop from n.buffers)))
 
@@ -219,9 +224,8 @@ module _ (s : Store) (r : Right s) (a : Arrays) (st : Stands s a) where
         let h : begin_shape body ≡ true = T→eq (begin_shape body) ok.shape in
         let l : leads s path ≡ true = T→eq (leads s path) ok.path in
         let q : k < compactor_count = slot_of h in
-        let begins : from ≤ to = omega (arith, ltb-true from to (T→eq (ltb from to) (and_l (ltb from to) (leb to (length bs)) ok.range))) in
         let end : to ≤ length bs = leb→le to (length bs) (and_r (ltb from to) (leb to (length bs)) ok.range) in
-        let made : part_of (node_in a.tree (unit_of (begin_target a.tree body))) from to ≡ coded_input part = ap (λ (n : Node). part_of n from to) (node_at_lem h l) ∙ part_coded (node_at s unit) (sound_fits s r.sound unit) from to begins end in
+        let made : part_of (node_in a.tree (unit_of (begin_target a.tree body))) from to ≡ coded_input part = ap (λ (n : Node). part_of n from to) (node_at_lem h l) ∙ part_coded (node_at s unit) (sound_fits s r.sound unit) from to end in
         let up : (b : ℕ) → T (in_use s.inputs b) → T (in_use (set s.inputs k part) b) = λ b t. begun_used b k part s.inputs (no_roots (input_at s k) ok.slot) t in
         rw made
         (quiet_stands s r a st m tt s' e refl refl refl refl (put_input a.hold k (coded_input part)) a.map
