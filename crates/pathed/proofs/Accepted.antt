@@ -168,7 +168,7 @@ module _ (s : Store) (r : Right s) (m : Step) (ev : Even m) (s' : Store) (e : de
   dropped_low : (x : ℕ) → T (has x (walked ++ (goal ∷ hs))) → x ≤ last_unit
   dropped_low x t = (drop_unit s r m ev s' e x (subst (λ (l : List ℕ). T (has x l)) (sym drops-are) t)).1
 
-  going_same : Same (going_in tree p h) (change s m).drops
+  pub going_same : Same (going_in tree p h) (change s m).drops
   going_same =
       subst (λ (l : List ℕ). Same l (change s m).drops) (sym going_is)
       (subst (λ (l : List ℕ). Same (going (eight walked) goal h) l) (sym drops-are)
@@ -191,17 +191,17 @@ module _ (s : Store) (r : Right s) (m : Step) (ev : Even m) (s' : Store) (e : de
 
   -- ---- the whole
 
-  pathed_tree_lem : TreeIs s'.root s'.nodes (pathed_tree tree counts p q f (coded_all es) h)
+  pub pathed_tree_lem : TreeIs s'.root s'.nodes (pathed_tree tree counts p q f (coded_all es) h)
   unfolding pathed_tree
   pathed_tree_lem =
       rw (coded_keys es, after_root s r (change s m) s' e ∙ root_is ∙ sym (top_of_lem p q f even))
       (tree_root (tree_after s r m ev s' e (put_nodes (copy_tree tree p q f) (coded_all es)) (come_counts counts p q (keys es)) (going_in tree p h) counts_come going_same tree_come) (top_of p q f))
 
-  pathed_counts_lem : CountsAre (ways s') (places s) (pathed_counts tree counts p q (keys es) h)
+  pub pathed_counts_lem : CountsAre (ways s') (places s) (pathed_counts tree counts p q (keys es) h)
   unfolding pathed_counts
   pathed_counts_lem = ways_after s r m ev s' e (put_nodes (copy_tree tree p q f) (coded_all es)) (come_counts counts p q (keys es)) (going_in tree p h) counts_come going_same
 
-  pathed_map_lem : MapIs (λ v. (has v (keys (change s m).adds) || held s v) && not (gone (cond (has v (keys (change s m).adds)) 1 (ways s v)) (going_in tree p h) v))
+  pub pathed_map_lem : MapIs (λ v. (has v (keys (change s m).adds) || held s v) && not (gone (cond (has v (keys (change s m).adds)) 1 (ways s v)) (going_in tree p h) v))
       (pathed_map tree counts a.map p q (keys es) h)
   unfolding pathed_map
   pathed_map_lem =

@@ -86,6 +86,16 @@ module _ (s : Store) (r : Right s) (x : Arrays) (st : Stands s x) (b : List ℕ)
 
   -- ---- the lines, each where those before it pass
 
+  module _ (dl : d ≤ indexes) where
+    fresh_are : used_part b 8 d ≡ q
+    fresh_are = used_part_lem b by d 8 dl
+
+    line_path : leads_to_in x.tree (used_part b 1 d) c ≡ leads_to s p c
+    line_path = ap (λ (l : List ℕ). leads_to_in x.tree l c) (used_part_lem b by d 1 dl) ∙ leads_to_is s r.sound x.tree st.tree p c
+
+    line_fresh : (us : List ℕ) → Low us → fresh_in x.map (used_part b 8 d ++ us) ≡ fresh s (q ++ us)
+    line_fresh us low = ap (λ (l : List ℕ). fresh_in x.map (l ++ us)) fresh_are ∙ fresh_is s (q ++ us) x.map (low_append q us (used_low b by d 8) low) st.map
+
   pub lines_agree : (us : List ℕ) → Low us → (range range' small small' fits fits' : Bool)
       → (d ≤ indexes → T (leads_to s p c) → range ≡ range')
       → (d ≤ indexes → T (leads_to s p c) → range' ≡ true → small ≡ small')
@@ -98,7 +108,7 @@ module _ (s : Store) (r : Right s) (x : Arrays) (st : Stands s x) (b : List ℕ)
         λ h4. (
           refl,
           λ h5. (
-            ap (λ (l : List ℕ). leads_to_in x.tree l c) (used_part_lem b by d 1 (deep h4)) ∙ leads_to_is s r.sound x.tree st.tree p c,
+            line_path (deep h4),
             λ h6. (
               er (deep h4) (eq→T (leads_to s p c) h6),
               λ h7. (
@@ -108,8 +118,7 @@ module _ (s : Store) (r : Right s) (x : Arrays) (st : Stands s x) (b : List ℕ)
                   λ h9. (
                     refl,
                     λ h10. (
-                      ap (λ (l : List ℕ). fresh_in x.map (l ++ us)) (used_part_lem b by d 8 (deep h4))
-                          ∙ fresh_is s (q ++ us) x.map (low_append q us (used_low b by d 8) low) st.map,
+                      line_fresh (deep h4) us low,
                       λ h11. (ef (deep h4) (eq→T (leads_to s p c) h6) h7 h11, λ h12. tt),
                     ),
                   ),
