@@ -1,12 +1,17 @@
 -- Laws of held_map for loops and answers that src/ no longer has. Assumes nothing.
-use mathlib.Core.Path.{◌≡◌, ap, sym, ◌∙◌}
-use mathlib.Core.List.{List}
+use mathlib.Core.Path.{◌≡◌, refl, ap, sym, ◌∙◌}
+use mathlib.Core.List.{List, [], ◌∷◌}
 use Prim.Native.Nat.{ℕ, ◌+◌, ◌≤◌, ◌<◌}
 use native.Mathlib.Numerals.{add-one}
 use native.Mathlib.Omega.{arith}
 use lib.ListN.{length, get_or, drop, drop_of_length-le}
 use lib.Seq.{drop-cons}
 use Rattle.held_map.specs.Map.{clear, clears}
+use Rattle.held_map.proofs.Map.{clear_length}
+
+pub clears_length : (us m : List ℕ) → length (clears m us) ≡ length m
+clears_length [] m = refl
+clears_length (u ∷ us) m = clears_length us (clear m u) ∙ clear_length m u
 
 pub record ReleaseLoop (m us map : List ℕ) (i : ℕ) : Type 0 where
   pub eight : length us ≡ 8

@@ -40,7 +40,7 @@ with_behind n i c e h = rw (set_out n.children i c (omega arith)) refl
 abbrev pub rest : List ℕ → List ℕ
 rest l = take (length l - 1) (drop 1 l)
 
-rest_drop : (l : List ℕ) → rest l ≡ drop 1 l
+pub rest_drop : (l : List ℕ) → rest l ≡ drop 1 l
 rest_drop l = take_all (length l - 1) (drop 1 l) (simp length-drop (omega arith))
 
 pub rest_length : (l : List ℕ) → length (rest l) ≡ length l - 1
