@@ -60,26 +60,30 @@ module _ (s : Store) (r : Right s) (x : Arrays) (st : Stands s x) (b : List ℕ)
   pub depth : T (path_shape d idx fs && is_index c) → d ≤ indexes
   depth z = shape_low d idx fs (T→eq (path_shape d idx fs) (and_l (path_shape d idx fs) (is_index c) z))
 
-  -- ---- the path's end, as the arrays have it
-
-  module _ (dl : d ≤ indexes) (way : T (leads_to s p c)) where
+  module _ (dl : d ≤ indexes) where
     path_is : used_part b 1 d ≡ p
     path_is = used_part_lem b by d 1 dl
 
+    fresh_are : used_part b 8 d ≡ q
+    fresh_are = used_part_lem b by d 8 dl
+
+  -- ---- the path's end, as the arrays have it
+
+  module _ (dl : d ≤ indexes) (way : T (leads_to s p c)) where
     leads_there : T (leads s p)
     leads_there = leads_first s r.sound x.tree st.tree p c way
 
     pub target_is : target_node x.tree (used_part b 1 d) ≡ coded n
-    target_is = ap (target_node x.tree) path_is ∙ target_node_lem s r.sound x.tree st.tree p leads_there
+    target_is = ap (target_node x.tree) (path_is dl) ∙ target_node_lem s r.sound x.tree st.tree p leads_there
 
     pub child_is : child_node x.tree (used_part b 1 d) c ≡ coded m
-    child_is = ap (λ (l : List ℕ). child_node x.tree l c) path_is ∙ child_node_lem s r.sound x.tree st.tree p c way
+    child_is = ap (λ (l : List ℕ). child_node x.tree l c) (path_is dl) ∙ child_node_lem s r.sound x.tree st.tree p c way
 
     pub place : c < length n.children
     place = child_place s r.sound x.tree st.tree p c way
 
     unit_is : child_unit x.tree (used_part b 1 d) c ≡ h
-    unit_is = ap (λ (l : List ℕ). child_unit x.tree l c) path_is ∙ child_unit_lem s r.sound x.tree st.tree p leads_there c
+    unit_is = ap (λ (l : List ℕ). child_unit x.tree l c) (path_is dl) ∙ child_unit_lem s r.sound x.tree st.tree p leads_there c
 
     child_low : h ≤ last_unit
     child_low = (r.sound.node_unit h (child_there s r.sound x.tree st.tree p c way)).1
@@ -87,14 +91,11 @@ module _ (s : Store) (r : Right s) (x : Arrays) (st : Stands s x) (b : List ℕ)
   -- ---- the lines, each where those before it pass
 
   module _ (dl : d ≤ indexes) where
-    fresh_are : used_part b 8 d ≡ q
-    fresh_are = used_part_lem b by d 8 dl
-
     line_path : leads_to_in x.tree (used_part b 1 d) c ≡ leads_to s p c
-    line_path = ap (λ (l : List ℕ). leads_to_in x.tree l c) (used_part_lem b by d 1 dl) ∙ leads_to_is s r.sound x.tree st.tree p c
+    line_path = ap (λ (l : List ℕ). leads_to_in x.tree l c) (path_is dl) ∙ leads_to_is s r.sound x.tree st.tree p c
 
     line_fresh : (us : List ℕ) → Low us → fresh_in x.map (used_part b 8 d ++ us) ≡ fresh s (q ++ us)
-    line_fresh us low = ap (λ (l : List ℕ). fresh_in x.map (l ++ us)) fresh_are ∙ fresh_is s (q ++ us) x.map (low_append q us (used_low b by d 8) low) st.map
+    line_fresh us low = ap (λ (l : List ℕ). fresh_in x.map (l ++ us)) (fresh_are dl) ∙ fresh_is s (q ++ us) x.map (low_append q us (used_low b by d 8) low) st.map
 
   pub lines_agree : (us : List ℕ) → Low us → (range range' small small' fits fits' : Bool)
       → (d ≤ indexes → T (leads_to s p c) → range ≡ range')
@@ -138,5 +139,5 @@ module _ (s : Store) (r : Right s) (x : Arrays) (st : Stands s x) (b : List ℕ)
       (root_is : (change s k).root ≡ top q f) where
     pub path_came : Came s s' x k f es (used_part b 1 d) (used_part b 8 d) (child_unit x.tree (used_part b 1 d) c)
     path_came =
-        rw (used_part_lem b by d 8 dl, unit_is dl way, path_is dl way)
+        rw (used_part_lem b by d 8 dl, unit_is dl way, path_is dl)
         (came s r k ev s' e x st p q f es h (h ∷ []) (leads_there dl way) even adds-are drops-are root_is (child_low dl way) (λ v o. refl) (λ v o. refl))

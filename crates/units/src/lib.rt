@@ -124,7 +124,7 @@ impl UnfinishedSlot {
 }
 
 impl SlotNumber for UnfinishedSlot {
-    ghost byte = { λ slot. slot.0 };
+    ghost byte = { λ unfinished. unfinished.0 };
 
     ghost COUNT = { slot_count };
 
@@ -150,7 +150,7 @@ impl CompactorSlot {
 }
 
 impl SlotNumber for CompactorSlot {
-    ghost byte = { λ slot. slot.0 };
+    ghost byte = { λ compactor. compactor.0 };
 
     ghost COUNT = { compactor_count };
 
