@@ -18,9 +18,7 @@ pub fn eight(s: &[u8], at: usize) -> [u8; 8]
     requires { at + room ≤ length s.now }
     ensures { result ≡ eight_at s.now at }
 {
-    let mut read = [0; 8];
-    read.copy_from_slice(&s[at..at + 8]);
-    read
+    *s[at..].first_chunk::<8>().unwrap()
 }
 
 // What the type of a byte says, told to the proofs: each is below 256. The check tells it of every lent array besides.
