@@ -79,7 +79,7 @@ pub fn fresh_run(seen: &mut [u64; 4], us: &[u8]) -> bool
 
 // ---- counts after a step
 
-// How often b stands in the list. By a loop: `filter(..).count()` took four times as long.
+// How often b stands in the list. By a loop: `filter(..).count()` took four times as long on a list whose length the compiler knows.
 pub fn occurrences(bs: &[u8], b: u8) -> usize
     ensures { (result ≡ times b bs.now) × (result ≤ length bs.now) }
 {

@@ -15,6 +15,11 @@ use units::{BranchRoot, NodeUnit, Unit};
 // The bytes of a node's row.
 pub const STRIDE: usize = 26;
 
+// Where in the row the number of children and the children stand.
+pub const CHILD_NUMBER: usize = 9;
+
+pub const CHILDREN: usize = 10;
+
 // Where the branches' counts begin.
 pub const PLACES: usize = 256;
 
@@ -51,8 +56,8 @@ pub fn read_node(tree: &[u8; 6656], u: NodeUnit) -> Node
     Node {
         buffer_number: tree[at],
         buffers: records::eight(tree, at + 1),
-        child_number: tree[at + 9],
-        children: records::eight(tree, at + 10),
+        child_number: tree[at + CHILD_NUMBER],
+        children: records::eight(tree, at + CHILDREN),
         offsets: records::eight(tree, at + 18),
     }
 }
@@ -65,8 +70,8 @@ pub fn bytes_of(n: Node) -> [u8; STRIDE]
     let mut row = [0; STRIDE];
     row[0] = n.buffer_number;
     row[1..9].copy_from_slice(&n.buffers);
-    row[9] = n.child_number;
-    row[10..18].copy_from_slice(&n.children);
+    row[CHILD_NUMBER] = n.child_number;
+    row[CHILDREN..18].copy_from_slice(&n.children);
     row[18..].copy_from_slice(&n.offsets);
     row
 }

@@ -58,10 +58,11 @@ pub fn follow(tree: &[u8; 6656], path: &[u8], u: NodeUnit) -> Option<NodeUnit>
         return Some(u);
     };
     let at = u.index() * counting::STRIDE;
-    if !is_index(tree[at + 9], i) {
+    if !is_index(tree[at + counting::CHILD_NUMBER], i) {
         return None;
     }
-    follow(tree, rest, NodeUnit(tree[at + 10 + usize::from(i)]))
+    let child = tree[at + counting::CHILDREN + usize::from(i)];
+    follow(tree, rest, NodeUnit(child))
 }
 
 // The units of the nodes on the path from u, root first, zeros after them; of a path at most seven indexes are looked at.

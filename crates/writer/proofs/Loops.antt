@@ -1,6 +1,6 @@
 -- Putting one record, the loop over the records of a kind, and one kind after another. Assumes nothing.
 use Rattle.std.specs.Prelude.{Bool, true, false, cond, ◌≡◌, refl, List, [], ◌∷◌, ◌++◌, map, ℕ, zero, suc, ◌+◌, ◌-◌, ◌≤◌, ◌<◌, leb, length, get_or, Option, Some, None, Ok}
-use Rattle.std.proofs.Common.{ap, sym, ◌∙◌, add-zero, add-one, arith, eq-eqb, ne_eqb, le-leb, le-ltb}
+use Rattle.std.proofs.Common.{ap, sym, ◌∙◌, add-zero, arith, eq-eqb, ne_eqb, le-leb, le-ltb}
 use Rattle.std.proofs.lemmas.Bool.{lt-leb}
 use Rattle.std.proofs.lemmas.Slice.{put_mid-paste}
 use Rattle.std.specs.Iterator.{AlwaysYields}
@@ -14,6 +14,7 @@ use borrow.Rule.Slice.PartMut.{put_mid}
 use denote.Param.Members.{Mut}
 use Rattle.units.specs.Limits.{last_unit, slot_count, compactor_count, writer_wants}
 use Rattle.rules.specs.Tables.{range}
+use Rattle.records.proofs.Ranges.{map_up}
 use Rattle.records.specs.Rows.{poured, poured_to, poured_paste}
 use Rattle.writer.specs.Records.{unless_zero, some_record, node_of, branch_of, slot_of, input_of, records_in}
 use Rattle.writer.specs.Written.{Place, put_in, wrote, length_of, write_in}
@@ -95,8 +96,7 @@ records_wrote g f y e h o last w = w _ (YieldsList-from_filter_map g (λ k. some
 
 -- numbers counted from 0, each one up
 pub map_next : (f : ℕ → List ℕ) (n a : ℕ) → map (λ k. f (k + 1)) (range n a) ≡ map f (range n (suc a))
-map_next f zero a = refl
-map_next f (suc n) a = rw add-one (ap (λ (l : List (List ℕ)). f (suc a) ∷ l) (map_next f n (suc a)))
+map_next f n a = map_up f n a
 
 -- ---- one kind after another
 
