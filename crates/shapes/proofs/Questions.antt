@@ -6,17 +6,17 @@ use Prim.Native.Nat.{ℕ, zero, suc, ◌+◌, ◌-◌, ◌≤◌, ◌<◌}
 use native.Mathlib.Omega.{arith}
 use lib.Dec.{eqb, leb, ltb}
 use lib.ListN.{length, get_or, take, drop, length-append, length-drop, length-set}
-use lib.Seq.{length-take-le}
+use lib.Seq.{get_or-drop, length-take-le}
 use Rattle.std.specs.List.{list_all, zip}
 use borrow.Author.Tests.{eqb-true, eqb-false, le-leb}
 use Rattle.ways.specs.Ways.{top}
-use Rattle.rules.specs.Tables.{all, eqs, slice}
+use Rattle.rules.specs.Tables.{all, eqs, range, slice}
 use Rattle.rules.specs.Store.{Node, Store, node_at}
 use Rattle.rules.specs.Steps.{small, copies, flushed_offsets, split_ends, flush_ends, commit_ends}
 use Rattle.records.specs.Rows.{eight}
 use Rattle.counting.specs.Nodes.{coded}
 use Rattle.eights.specs.Eights.{replaced}
-use Rattle.eights.proofs.Places.{eight_take, eight_all, replaced_eight, replaced_back, replaced_set}
+use Rattle.eights.proofs.Places.{eight_alike, eight_take, eight_all, replaced_eight, replaced_back, replaced_set}
 use Rattle.shapes.specs.Ends.{Fits, buffer_last, over_root, child_set, split_left, split_right, flush_target, commit_target}
 use Rattle.shapes.specs.Questions.{split_share_fits, gc_fits, part_fits, part_is, room_for_buffer, room_for_child, flush_room}
 use Rattle.shapes.proofs.Shapes.{offset_coded}
@@ -50,13 +50,22 @@ differ [] (b ∷ y) d = refl
 differ (a ∷ x) [] d = refl
 differ (a ∷ x) (b ∷ y) d = rw (differ x y (λ e. d (ap suc e))) (and-false (eqb a b))
 
--- the first n places of both, asked one after another
-pub all_zip : (a b : List ℕ) (n : ℕ) → length a ≡ length b → list_all (λ (p : ℕ × ℕ). eqb p.0 p.1) (take n (zip a b)) ≡ eqs (take n a) (take n b)
-all_zip a b zero h = refl
-all_zip [] [] (suc n) h = refl
-all_zip [] (y ∷ b) (suc n) h = absurd (omega (arith, h))
-all_zip (x ∷ a) [] (suc n) h = absurd (omega (arith, h))
-all_zip (x ∷ a) (y ∷ b) (suc n) h = ap (λ t. eqb x y && t) (all_zip a b n (omega (arith, h)))
+-- n places from k on, asked beside those of ys one after another
+each_zip : (l xs ys : List ℕ) (n k : ℕ) → length xs ≡ length ys → ((j : ℕ) → get_or l (k + j) 0 ≡ get_or xs j 0)
+    → list_all (λ (p : ℕ × ℕ). eqb (get_or l p.0 0) p.1) (zip (range n k) ys) ≡ eqs (take n xs) (take n ys)
+each_zip l xs ys zero k h g = refl
+each_zip l [] [] (suc n) k h g = refl
+each_zip l [] (y ∷ ys) (suc n) k h g = absurd (omega (arith, h))
+each_zip l (x ∷ xs) [] (suc n) k h g = absurd (omega (arith, h))
+each_zip l (x ∷ xs) (y ∷ ys) (suc n) k h g =
+    let e : get_or l k 0 ≡ x = ap (λ (j : ℕ). get_or l j 0) (omega arith) ∙ g 0 in
+    rw e (ap (λ t. eqb x y && t) (each_zip l xs ys n (suc k) (omega (arith, h)) (λ j. ap (λ (i : ℕ). get_or l i 0) (omega arith) ∙ g (suc j))))
+
+pub part_each : (l input : List ℕ) (a n : ℕ) → length l ≡ 8 → length input ≡ 8
+    → list_all (λ (p : ℕ × ℕ). eqb (get_or l p.0 0) p.1) (zip (range n a) input) ≡ eqs (take n (eight (replaced l 0 a []))) (take n input)
+part_each l input a n h k =
+    rw (replaced_back l a)
+    (each_zip l (eight (drop a l)) input n a (sym k) (λ j. sym (eight_alike (drop a l) (omega (arith, length-drop a l, h)) j ∙ get_or-drop a l j 0)))
 
 pub part_is_lem : (n : Node) → Fits n → (a e : ℕ) (input : List ℕ) → e ≤ length n.buffers → length input ≤ 8 → part_is (coded n) a e (length input) (eight input) ≡ eqs (slice a (e - a) n.buffers) input
 unfolding part_is

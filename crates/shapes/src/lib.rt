@@ -189,11 +189,9 @@ pub fn part_is(n: Node, start: u8, end: u8, number: u8, input: [u8; 8]) -> bool
     if end.saturating_sub(start) != number {
         return false;
     }
-    let part = eights::replace(n.buffers, 0, start, &[]);
-    part.iter()
+    (usize::from(start)..usize::from(end))
         .zip(&input)
-        .take(usize::from(number))
-        .all(|(x, y)| x == y)
+        .all(|(at, root)| eights::place(n.buffers, at) == *root)
 }
 
 // ---- 9, the sizes
