@@ -35,12 +35,12 @@ fn in_slot(hold: &[u8; 2380], k: UnfinishedSlot, u: u8) -> bool
     tables::among(x.units, x.number, u)
 }
 
-// The lowest root of a branch that has the unit. From 0 and one up: a chain over `1..=LAST` asks at every number whether it is through.
+// The lowest root of a branch that has the unit.
 fn branch_with(hold: &[u8; 2380], u: u8) -> Option<BranchRoot>
     ensures { result ≡ branch_with hold.now u }
 {
-    (0..BranchRoot::LAST)
-        .map(|b| BranchRoot(b + 1))
+    (1..=BranchRoot::LAST)
+        .map(BranchRoot)
         .find(|b| in_branch(hold, *b, u))
 }
 
